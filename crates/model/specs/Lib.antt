@@ -1,0 +1,9 @@
+pub mod Basics
+pub mod Numbers
+pub mod Books
+pub mod Table
+pub mod Retries
+pub mod Sound
+pub mod Record
+pub mod Outcomes
+pub mod Selection

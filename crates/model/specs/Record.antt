@@ -1,0 +1,110 @@
+-- The event record: what its kind asks of the fields.
+-- Assumes nothing.
+use Prim.Native.Nat.{ℕ, _^_}
+use mathlib.Core.Bool.{Bool, true, false, cond, not, _&&_, _||_}
+use mathlib.Core.List.{List, [], _∷_}
+use lib.Dec.{ltb, leb, eqb}
+use Rattle.model.specs.Basics.{among}
+use Rattle.model.specs.Numbers.{tenDigits}
+use Rattle.model.specs.declared.Event.{Event}
+
+-- ---- the kinds
+
+-- 1 new side creates, 2 old side creates
+abbrev pub isCreate : ℕ → Bool
+isCreate k = among k (1 ∷ 2 ∷ [])
+
+-- 11 reply, 12 silence
+abbrev pub isAnswer : ℕ → Bool
+isAnswer k = among k (11 ∷ 12 ∷ [])
+
+-- 5 activate, 9 modify active, 10 disconnect, 14 resend
+abbrev pub isBroadcast : ℕ → Bool
+isBroadcast k = among k (5 ∷ 9 ∷ 10 ∷ 14 ∷ [])
+
+-- 5 activate, 6 cancel, 7 acknowledge cancel, 8 resolve conflict, 10 disconnect, 13 window ran out, 14 resend, 15 purge
+abbrev pub isPlain : ℕ → Bool
+isPlain k = (leb 5 k && leb k 8) || eqb k 10 || (leb 13 k && leb k 15)
+
+-- ---- the fields besides TN and time [E2, E3]
+
+abbrev pub named : ℕ → Bool
+named x = ltb 0 x
+
+abbrev pub unused : ℕ → Bool
+unused x = eqb x 0
+
+-- Sender and other differ in kinds 1 and 2. [E4]
+abbrev pub twoSides : ℕ → ℕ → Bool
+twoSides a b = named a && named b && not (eqb a b)
+
+-- authorization, with cause 1 to 99 with "no" and 0 with "yes"
+abbrev pub authorizes : ℕ → ℕ → Bool
+authorizes mark cause = (eqb mark 1 && unused cause) || (eqb mark 2 && named cause && leb cause 99)
+
+-- a result: success or failure
+abbrev pub results : ℕ → Bool
+results mark = eqb mark 1 || eqb mark 2
+
+-- 1: sender, other = old, LRN, due
+abbrev pub newCreates : Event → Bool
+newCreates e =
+    twoSides (e .sender) (e .other) && unused (e .mark) && unused (e .cause) && tenDigits (e .lrn .0) && unused (e .version) && named (e .due)
+
+-- 2: sender, other = new, authorization, cause, due
+abbrev pub oldCreates : Event → Bool
+oldCreates e =
+    twoSides (e .sender) (e .other) && authorizes (e .mark) (e .cause) && unused (e .lrn .0) && unused (e .version) && named (e .due)
+
+-- 3: sender, version, LRN, due
+abbrev pub newModifies : Event → Bool
+newModifies e =
+    unused (e .other) && unused (e .mark) && unused (e .cause) && tenDigits (e .lrn .0) && named (e .version) && named (e .due)
+
+-- 4: sender, version, authorization, cause, due
+abbrev pub oldModifies : Event → Bool
+oldModifies e = unused (e .other) && authorizes (e .mark) (e .cause) && unused (e .lrn .0) && named (e .version) && named (e .due)
+
+-- 5 to 8, 10, 13 to 15: sender, version
+abbrev pub plainly : Event → Bool
+plainly e = unused (e .other) && unused (e .mark) && unused (e .cause) && unused (e .lrn .0) && named (e .version) && unused (e .due)
+
+-- 9: sender, version, LRN
+abbrev pub modifiesActive : Event → Bool
+modifiesActive e =
+    unused (e .other) && unused (e .mark) && unused (e .cause) && tenDigits (e .lrn .0) && named (e .version) && unused (e .due)
+
+-- 11: sender, version, result
+abbrev pub replies : Event → Bool
+replies e =
+    named (e .sender) && unused (e .other) && results (e .mark) && unused (e .cause) && unused (e .lrn .0) && named (e .version)
+    && unused (e .due)
+
+-- 12: sender 0, other = Local SMS, version
+abbrev pub silent : Event → Bool
+silent e =
+    unused (e .sender) && named (e .other) && unused (e .mark) && unused (e .cause) && unused (e .lrn .0) && named (e .version)
+    && unused (e .due)
+
+unfoldable pub kindFits : Event → Bool
+kindFits e =
+    cond (isPlain (e .kind)) (plainly e)
+    (cond (eqb (e .kind) 1) (newCreates e)
+    (cond (eqb (e .kind) 2) (oldCreates e)
+    (cond (eqb (e .kind) 3) (newModifies e)
+    (cond (eqb (e .kind) 4) (oldModifies e)
+    (cond (eqb (e .kind) 9) (modifiesActive e)
+    (cond (eqb (e .kind) 11) (replies e)
+    (cond (eqb (e .kind) 12) (silent e) false)))))))
+
+-- ---- the whole record
+
+-- the fields fit the bits that the record has for them [E1]
+unfoldable pub fitsBits : Event → Bool
+fitsBits e =
+    ltb (e .kind) (2 ^ 8) && ltb (e .sender) (2 ^ 6) && ltb (e .other) (2 ^ 6) && ltb (e .mark) (2 ^ 2) && ltb (e .cause) (2 ^ 8)
+    && ltb (e .tn .0) (2 ^ 34) && ltb (e .lrn .0) (2 ^ 34) && ltb (e .version) (2 ^ 16) && ltb (e .time) (2 ^ 32) && ltb (e .due) (2 ^ 32)
+
+-- Otherwise malformed. [E5]
+unfoldable pub wellFormed : Event → Bool
+wellFormed e = fitsBits e && tenDigits (e .tn .0) && named (e .time) && kindFits e

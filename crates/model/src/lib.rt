@@ -1,0 +1,124 @@
+// The things that document 01 speaks of, as structs by value. Its rules are definitions over these very structs: specs/.
+
+// A telephone number, and a location routing number: ten digits each, never taken for one another. [N1, N2, F6]
+pub struct Tn(pub u64);
+
+pub struct Lrn(pub u64);
+
+// The fields of an event record. [E1]
+pub struct Event {
+    pub kind: u8,
+    pub sender: u8,
+    pub other: u8,
+    // Authorization, or a reply's result: 1 yes or success, 2 no or failure.
+    pub mark: u8,
+    pub cause: u8,
+    pub tn: Tn,
+    pub lrn: Lrn,
+    pub version: u16,
+    pub time: u32,
+    pub due: u32,
+}
+
+// What a record reads as. [E5]
+pub enum Reading {
+    Record(Event),
+    Malformed,
+}
+
+// A version's name.
+pub struct Id {
+    pub tn: Tn,
+    pub number: u16,
+}
+
+// The new side: its provider, whether it has created, and what it then has. [V2]
+pub struct NewSide {
+    pub provider: u8,
+    pub created: bool,
+    pub lrn: Lrn,
+    pub due: u32,
+}
+
+// The old side. Authorization: 0 none, 1 yes, 2 no. [V2]
+pub struct OldSide {
+    pub provider: u8,
+    pub created: bool,
+    pub authorization: u8,
+    pub cause: u8,
+    pub due: u32,
+}
+
+// Retries used per system, three bits each: systems 1 to 21 in low, 22 to 42 in mid, 43 to 63 in high.
+pub struct Retries {
+    pub low: u64,
+    pub mid: u64,
+    pub high: u64,
+}
+
+// A version's broadcast: purpose (0 none, 1 activate, 2 modify, 3 disconnect), start, and the systems' sets, provider n at bit n.
+pub struct Broadcast {
+    pub purpose: u8,
+    pub start: u32,
+    pub confirmed: u64,
+    pub waiting: u64,
+    pub failed: u64,
+    pub retries: Retries,
+}
+
+// A subscription version. Canceller: 0 nobody, 1 the new side, 2 the old side. [V0]
+pub struct Version {
+    pub id: Id,
+    pub status: u8,
+    pub stamp: u32,
+    pub live: bool,
+    pub new: NewSide,
+    pub old: OldSide,
+    pub canceller: u8,
+    // The window has run out.
+    pub window: bool,
+    pub cast: Broadcast,
+}
+
+// A message: to a provider's Local SMS or else its SOA. [Y1]
+pub struct Message {
+    pub local: bool,
+    pub provider: u8,
+    pub sort: u8,
+    pub id: Id,
+    pub status: u8,
+    pub failed: u64,
+    pub lrn: Lrn,
+}
+
+// A provider's two marks, as the provider list lends them. [B1, F7]
+#[repr(C)]
+pub struct Provider {
+    pub present: bool,
+    pub local: bool,
+}
+
+// The two marks of all providers, as sets.
+pub struct Marks {
+    pub present: u64,
+    pub local: u64,
+}
+
+// What an event gets: document 01's outcomes in the order of their numbers.
+pub enum Outcome {
+    Done,
+    Unsound,
+    Malformed,
+    Absent,
+    Unlisted,
+    Unknown,
+    Standless,
+    Misplaced,
+    Early,
+    Unfit,
+    Busy,
+    Unawaited,
+    NotCurrent,
+    Full,
+    Exhausted,
+}

@@ -1,0 +1,63 @@
+// Big-endian words in a slice of bytes, at an offset.
+ghost use mathlib.Core.Path.{_≡_};
+ghost use Prim.Native.Nat.{_+_, _≤_, _<_};
+ghost use lib.ListN.{length};
+ghost use Rattle.octets.specs.Octets.{be, put};
+
+// A byte as a word.
+fn wide(x: u8) -> u64
+    ensures { λ r. ⌜ (r ≡ x) × (r < 256) ⌝ }
+{
+    x as u64
+}
+
+// The eight bytes from `at` as a number. In two halves: a sum of eight in one row is compiled to eight loads, and this to one.
+pub fn u64_at(s: &[u8], at: usize) -> u64
+    requires { ⌜ at + 8 ≤ length (now s) ⌝ }
+    ensures { λ r. ⌜ r ≡ be 8 (now (s .entry)) at ⌝ }
+{
+    let b0 = wide(s[at]);
+    let b1 = wide(s[at + 1]);
+    let b2 = wide(s[at + 2]);
+    let b3 = wide(s[at + 3]);
+    let b4 = wide(s[at + 4]);
+    let b5 = wide(s[at + 5]);
+    let b6 = wide(s[at + 6]);
+    let b7 = wide(s[at + 7]);
+    (b0 * 0x100000000000000 + b1 * 0x1000000000000 + b2 * 0x10000000000 + b3 * 0x100000000)
+        + (b4 * 0x1000000 + b5 * 0x10000 + b6 * 0x100 + b7)
+}
+
+// The four bytes from `at` as a number.
+pub fn u32_at(s: &[u8], at: usize) -> u64
+    requires { ⌜ at + 4 ≤ length (now s) ⌝ }
+    ensures { λ r. ⌜ r ≡ be 4 (now (s .entry)) at ⌝ }
+{
+    let b0 = wide(s[at]);
+    let b1 = wide(s[at + 1]);
+    let b2 = wide(s[at + 2]);
+    let b3 = wide(s[at + 3]);
+    b0 * 0x1000000 + b1 * 0x10000 + b2 * 0x100 + b3
+}
+
+// The eight bytes from `at` become v.
+pub fn put_u64(s: &mut [u8], at: usize, v: u64)
+    requires { ⌜ at + 8 ≤ length (now s) ⌝ }
+    ensures { λ _. ⌜ now (s .exit) ≡ put 8 (now (s .entry)) at v ⌝ }
+{
+    s[at + 7] = (v % 256) as u8;
+    let v1 = v / 256;
+    s[at + 6] = (v1 % 256) as u8;
+    let v2 = v1 / 256;
+    s[at + 5] = (v2 % 256) as u8;
+    let v3 = v2 / 256;
+    s[at + 4] = (v3 % 256) as u8;
+    let v4 = v3 / 256;
+    s[at + 3] = (v4 % 256) as u8;
+    let v5 = v4 / 256;
+    s[at + 2] = (v5 % 256) as u8;
+    let v6 = v5 / 256;
+    s[at + 1] = (v6 % 256) as u8;
+    let v7 = v6 / 256;
+    s[at] = (v7 % 256) as u8;
+}
