@@ -6,7 +6,7 @@ use mathlib.Core.Bool.{Bool, true, false, _&&_}
 use mathlib.Core.List.{List, [], _∷_}
 use lib.Dec.{eqb}
 use lib.ListN.{length}
-use Rattle.model.specs.Basics.{keep, iff}
+use Rattle.model.specs.Basics.{keep, iff, All}
 use Rattle.model.specs.Record.{isAnswer, wellFormed}
 use Rattle.model.specs.Answers.{answering}
 use Rattle.model.specs.Step.{Step, Setting, stepOf, line, unsound, final, outcomes, messages}
@@ -71,10 +71,6 @@ pub record Same (does : Step) (ns : List ℕ) (es : List Event) (t : List Versio
   pub tables : final does (reorder ns es) t ≡ final does es t
   pub outs : outcomes does (reorder ns es) t ≡ reorder ns (outcomes does es t)
   pub mail : (local : Bool) (p n : ℕ) → mailOf local p n (messages does (reorder ns es) t) ≡ mailOf local p n (messages does es t)
-
-pub data All {A : Type 0} (P : A → Type 0) : List A → Type 0 where
-  none : All P []
-  with : {x : A} {xs : List A} → P x → All P xs → All P (x ∷ xs)
 
 -- A sound table with as many free rows as events, well-formed events, fixed sound books, a tray of 64, R of 0 to 7.
 pub record Premises (s : Setting) (es : List Event) (t : List Version) : Type 0 where
