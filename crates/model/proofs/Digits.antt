@@ -4,13 +4,18 @@
 use mathlib.Core.Path.{_≡_, refl, sym, ap, ap₂, _∙_, subst}
 use Prim.Native.Nat.{ℕ, zero, suc, _+_, _-_, _*_, _/_, _%_, _^_, _≤_, _<_}
 use mathlib.Core.Bool.{Bool, true, false, cond}
-use lib.Dec.{leb, lit<}
+use lib.Dec.{leb, ltb, lit<}
+use lib.ListN.{getD}
+use mathlib.Core.List.{List, [], _∷_}
 use lib.Arith.{digits-div, digits-mod, digits-lt}
 use native.Mathlib.Nat.{pow-zero, pow-suc, pow-succ', mul-one, one-mul, mul-suc, mul-left-comm, div-one, div-div-eq-div-mul, div-add-mod', div-mul-le-self, mod-le, mod-lt, le-trans, mul-le-mul-right, add-mul-div-left, add-mul-mod-self-left, add-mul-div-right, add-mul-mod-self-right, sub-add-cancel, zero-div, add-mul, mul-assoc, mul-comm, add-assoc, mod-eq-of-lt, div-eq-of-lt, add-zero, zero-mul, div-lt-iff-lt-mul}
 use native.Mathlib.Omega.{arith}
 use lib.Pow.{pow-pos, pow-add}
-use borrow.Author.Tests.{leb-true, leb-false}
-use Rattle.model.specs.Retries.{placeOf, octal, withOctal, used, withUsed}
+use borrow.Author.Tests.{leb-true, leb-false, ltb-true, lt-ltb}
+use Rattle.model.specs.Basics.{none, with}
+use Rattle.model.specs.Sound.{retriesInRange}
+use Rattle.model.proofs.Lists.{conj-at, conj-all}
+use Rattle.model.specs.Retries.{placeOf, octal, withOctal, used, withUsed, noRetries}
 use Rattle.model.specs.declared.Retries.{Retries}
 
 -- the digit at p
@@ -206,3 +211,39 @@ module _ (r : Retries) (p d : ℕ) (h : d < 8) where
             mid = r .mid;
             high = octal-comm (p - 43) (q - 43) d c (r .high) (λ z. n (omega (arith, leb-false p 42 f, leb-false q 42 j))) h k m;
           })
+
+  -- the numbers that hold the retries stay in range
+  pub used-fits : 1 ≤ p → p ≤ 63 → retriesInRange r ≡ true → retriesInRange (withUsed r p d) ≡ true
+  unfolding retriesInRange withUsed
+  used-fits l m k = go (leb p 21) refl (leb p 42) refl
+    where
+      words : List Bool
+      words = ltb (r .low) (2 ^ 63) ∷ ltb (r .mid) (2 ^ 63) ∷ ltb (r .high) (2 ^ 63) ∷ []
+      of : (i : ℕ) → getD words i true ≡ true
+      of = conj-at words k
+      fits : (q w : ℕ) → q < 21 → ltb w (2 ^ 63) ≡ true → ltb (withOctal q d w) (2 ^ 63) ≡ true
+      fits q w t u = lt-ltb (withOctal q d w) (2 ^ 63) (octal-fits q d w t h (ltb-true w (2 ^ 63) u))
+      go : (a : Bool) → leb p 21 ≡ a → (b : Bool) → leb p 42 ≡ b → retriesInRange (withUsed r p d) ≡ true
+      go true e b f =
+          rw e
+          (conj-all (ltb (withOctal (p - 1) d (r .low)) (2 ^ 63) ∷ ltb (r .mid) (2 ^ 63) ∷ ltb (r .high) (2 ^ 63) ∷ [])
+          (with (fits (p - 1) (r .low) (omega (arith, leb-true p 21 e)) (of 0)) (with (of 1) (with (of 2) none))))
+      go false e true f =
+          rw (e, f)
+          (conj-all (ltb (r .low) (2 ^ 63) ∷ ltb (withOctal (p - 22) d (r .mid)) (2 ^ 63) ∷ ltb (r .high) (2 ^ 63) ∷ [])
+          (with (of 0) (with (fits (p - 22) (r .mid) (omega (arith, leb-true p 42 f, leb-false p 21 e)) (of 1)) (with (of 2) none))))
+      go false e false f =
+          rw (e, f)
+          (conj-all (ltb (r .low) (2 ^ 63) ∷ ltb (r .mid) (2 ^ 63) ∷ ltb (withOctal (p - 43) d (r .high)) (2 ^ 63) ∷ [])
+          (with (of 0) (with (of 1) (with (fits (p - 43) (r .high) (omega (arith, leb-false p 42 f)) (of 2)) none))))
+
+pub used-none : (p : ℕ) → used noRetries p ≡ 0
+unfolding used octal
+used-none p = go (leb p 21) (leb p 42)
+  where
+    zeros : (q : ℕ) → 0 / 2 ^ (3 * q) % 8 ≡ 0
+    zeros q = ap (λ (x : ℕ). x % 8) (zero-div (2 ^ (3 * q)))
+    go : (a b : Bool) → octal (cond a (p - 1) (cond b (p - 22) (p - 43))) (cond a 0 (cond b 0 0)) ≡ 0
+    go true b = zeros (p - 1)
+    go false true = zeros (p - 22)
+    go false false = zeros (p - 43)

@@ -9,3 +9,7 @@ pub mod Digits
 pub mod Arrivals
 pub mod Formed
 pub mod Replies
+pub mod SoundRows
+pub mod SoundSets
+pub mod SoundCasts
+pub mod SoundAnswers
