@@ -106,16 +106,16 @@ module _ (most : ℕ) (small : most ≤ 7) where
       → heard most f (heard most e v) ≡ heard most e (heard most f v)
   unfolding heard
   heard-comm e f v le lf n = λ i. record {
-        id = v .id;
-        status = v .status;
-        stamp = stamps (v .stamp) (e .time) (f .time) i;
-        live = v .live;
-        new = v .new;
-        old = v .old;
-        canceller = v .canceller;
-        window = v .window;
-        cast = moved-comm e f (v .cast) le lf n i;
-      }
+    id = v .id;
+    status = v .status;
+    stamp = stamps (v .stamp) (e .time) (f .time) i;
+    live = v .live;
+    new = v .new;
+    old = v .old;
+    canceller = v .canceller;
+    window = v .window;
+    cast = moved-comm e f (v .cast) le lf n i;
+  }
     where
       stamps : (a b c : ℕ) → max (max a b) c ≡ max (max a c) b
       stamps a b c = omega arith

@@ -13,3 +13,12 @@ pub mod SoundRows
 pub mod SoundSets
 pub mod SoundCasts
 pub mod SoundAnswers
+pub mod SoundOpened
+pub mod SoundLines
+pub mod SoundLaws
+pub mod SoundSides
+pub mod SoundFresh
+pub mod SoundKinds
+pub mod SoundStep
+pub mod SoundTables
+pub mod Reordering
