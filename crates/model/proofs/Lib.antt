@@ -22,3 +22,8 @@ pub mod SoundKinds
 pub mod SoundStep
 pub mod SoundTables
 pub mod Reordering
+pub mod Effects
+pub mod Entries
+pub mod Cells
+pub mod Worked
+pub mod Theorems
