@@ -102,6 +102,10 @@ taken q d w = rw eight
 octal-le : (q w : ℕ) → octal q w * 8 ^ q ≤ w
 octal-le q w = rw octal-digit (digit-le 8 q w)
 
+-- a digit is part of its number
+pub octal-part : (q w : ℕ) → octal q w * 2 ^ (3 * q) ≤ w
+octal-part q w = rw eight (octal-le q w)
+
 -- the digit that was put is there
 pub octal-same : (q d w : ℕ) → d < 8 → octal q (withOctal q d w) ≡ d
 unfolding octal

@@ -67,10 +67,10 @@ statusBy s else = cond (eqb (s .authorization) no) conflict else
 abbrev pub noBroadcast : Broadcast
 noBroadcast = record { purpose = 0; start = 0; confirmed = 0; waiting = 0; failed = 0; retries = noRetries }
 
--- otherwise empty, numbered one above the newest, or 1
-unfoldable pub freshVersion : Event → List Version → Version
-freshVersion e r = record {
-  id = record { tn = e .tn; number = suc (newest r) };
+-- otherwise empty, with a number
+abbrev pub freshNumbered : Event → ℕ → Version
+freshNumbered e n = record {
+  id = record { tn = e .tn; number = n };
   status = statusBy (oldJoined e (oldAbsent (oldIn e))) pending;
   stamp = e .time;
   live = false;
@@ -80,6 +80,10 @@ freshVersion e r = record {
   window = false;
   cast = noBroadcast;
 }
+
+-- numbered one above the newest, or 1
+unfoldable pub freshVersion : Event → List Version → Version
+freshVersion e r = freshNumbered e (suc (newest r))
 
 -- ---- concurrence [C3]
 
