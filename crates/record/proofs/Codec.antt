@@ -3,20 +3,20 @@
 use mathlib.Core.Path.{_≡_, refl, sym, ap, _∙_}
 use mathlib.Core.Bool.{Bool, true, false, cond}
 use mathlib.Core.List.{List, [], _∷_, _++_, append-nil}
-use Prim.Native.Nat.{ℕ, _+_, _*_, _%_, _^_, _<_, _≤_}
+use Prim.Native.Nat.{ℕ, _+_, _*_, _%_, _^_, _<_}
 use native.Mathlib.Omega.{arith}
 use borrow.Author.Tests.{eq-eqb, ne-eqb}
 use lib.ListN.{length, drop, length-append, length-drop, drop-of-length-le}
 use Rattle.octets.specs.Octets.{be, digits, put}
 use Rattle.octets.specs.Laws.{be-add, digits-add, put-after, length-digits}
-use Rattle.octets.specs.Fields.{cut, join, fit-at}
+use Rattle.octets.specs.Fields.{cut}
 use Rattle.model.specs.declared.Event.{Event}
 use Rattle.model.specs.declared.Reading.the-variants.{Record, Malformed}
 use Rattle.model.specs.Record.{wellFormed}
-use Rattle.record.specs.Layout.{widths, fieldsOf, eventOf, bytesOf, readFields, readEvent, writable, Written}
+use Rattle.record.specs.Layout.{widths, bytesOf, readFields, readEvent, writable, Written}
 use Rattle.record.specs.InWords.{eventOfWords, words, Fitted, Packed}
 use Rattle.record.proofs.Spans.{event-in-words, spare-in-words, packed-joined}
-use Rattle.record.proofs.Inverse.{formed-fits}
+use Rattle.record.proofs.Inverse.{bits-at, formed-bits}
 
 -- ---- reading
 
@@ -41,7 +41,7 @@ module _ (xs : List ℕ) (a b c : ℕ) (h : length xs ≡ 24) (p : a ≡ be 8 xs
 
 pub fitted : (e : Event) → wellFormed e ≡ true → Fitted e
 fitted e w =
-    let at = fit-at widths (fieldsOf e) (formed-fits e w) in
+    let at = bits-at e (formed-bits e w) in
     record { sender = at 1; other = at 2; mark = at 3; tn = at 5; lrn = at 6 }
 
 -- three stores fill the 24 bytes

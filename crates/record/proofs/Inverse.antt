@@ -12,7 +12,7 @@ use lib.Seq.{take-all}
 use lib.Dec.{eqb}
 use Rattle.octets.specs.Octets.{Bytes, be, digits}
 use Rattle.octets.specs.Laws.{be-lt, be-digits, digits-be, length-digits}
-use Rattle.octets.specs.Fields.{cut, join, fit, and-l, and-r, join-lt, join-cut, cut-join}
+use Rattle.octets.specs.Fields.{cut, join, fit, fit-at, and-l, and-r, join-lt, join-cut, cut-join}
 use Rattle.model.specs.declared.Event.{Event}
 use Rattle.model.specs.declared.Reading.{Reading}
 use Rattle.model.specs.declared.Reading.the-variants.{Record, Malformed}
@@ -25,14 +25,16 @@ bits-widths : (e : Event) → fitsBits e ≡ fit widths (fieldsOf e)
 unfolding fitsBits
 bits-widths e = simp (and-assoc, and-true)
 
--- well-formed fields fit their widths
-pub formed-fits : (e : Event) → wellFormed e ≡ true → fit widths (fieldsOf e) ≡ true
+pub bits-at : (e : Event) → fitsBits e ≡ true → (i : ℕ) → getD (fieldsOf e) i 0 < 2 ^ getD widths i 0
+bits-at e f = fit-at widths (fieldsOf e) (sym (bits-widths e) ∙ f)
+
+pub formed-bits : (e : Event) → wellFormed e ≡ true → fitsBits e ≡ true
 unfolding wellFormed
-formed-fits e w =
+formed-bits e w =
     let f : Bool = fitsBits e in
     let n : Bool = tenDigits (e .tn .0) in
     let t : Bool = named (e .time) in
-    sym (bits-widths e) ∙ and-l f n (and-l (f && n) t (and-l (f && n && t) (kindFits e) w))
+    and-l f n (and-l (f && n) t (and-l (f && n && t) (kindFits e) w))
 
 -- ---- an answer that is a record
 
@@ -61,7 +63,7 @@ unfolding bytesOf
 read-written e w =
     let fs : List ℕ = fieldsOf e in
     let v : ℕ = join widths fs in
-    let f : fit widths fs ≡ true = formed-fits e w in
+    let f : fit widths fs ≡ true = sym (bits-widths e) ∙ formed-bits e w in
     read-whole (digits 24 v) (length-digits 24 v)
     ∙ ap (λ (n : ℕ). readFields (cut widths n))
     (ap (λ (l : List ℕ). be 24 l 0) (sym (append-nil (digits 24 v))) ∙ be-digits 24 v [] [] ∙ mod-eq-of-lt (join-lt widths fs f))

@@ -1,8 +1,9 @@
-use mathlib.Core.Path.{sym, _∙_}
-use mathlib.Core.Bool.{true, false}
+use mathlib.Core.Path.{_≡_, sym, _∙_}
+use mathlib.Core.Bool.{Bool, true, false, cond}
 use native.Mathlib.Omega.{arith}
 use borrow.Author.Tests.{ne-eqb}
 use denote.Ref.{now}
+use Rattle.model.specs.declared.Reading.the-variants.{Record, Malformed}
 use Rattle.record.specs.Layout.{readEvent}
 use Rattle.record.proofs.Codec.{read-spare, read-fields}
 use borrow.Author.Needs.{needs}
@@ -37,9 +38,10 @@ unpack-requires c κs = search needs
 well-formed-requires : tie.Need-well-formed-requires
 well-formed-requires c κs = search needs
 
-returns-3 : tie.Need-returns-3
-returns-3 c =
-    let f = c .before in
+-- once the fields are judged
+judged : (f : tie.After-well-formed) (w : Bool) → f .well-formed .result ≡ w
+    → cond w (Record (f .before .unpack .result)) Malformed ≡ readEvent (now (f .before .before .before .before .before .before .before .before .args .s))
+judged f w q =
     let u = f .before in
     let w3 = u .before .before in
     let w2 = w3 .before in
@@ -47,19 +49,13 @@ returns-3 c =
     read-fields (now (w1 .before .before .before .args .s)) (w1 .u64-at .result) (w2 .u64-at2 .result) (w3 .u64-at3 .result)
     (w1 .before .if1 .left) (w1 .u64-at .ensures) (w2 .u64-at2 .ensures) (w3 .u64-at3 .ensures)
     (omega (arith, w2 .u64-at2)) (omega (arith, w3 .u64-at3))
-    (u .unpack .result) true (u .unpack .ensures) (sym (c .if3 .taken) ∙ f .well-formed .ensures) (u .before .if2 .left)
+    (u .unpack .result) w (u .unpack .ensures) (sym q ∙ f .well-formed .ensures) (u .before .if2 .left)
+
+returns-3 : tie.Need-returns-3
+returns-3 c = judged (c .before) true (c .if3 .taken)
 
 returns-4 : tie.Need-returns-4
-returns-4 c =
-    let f = c .before in
-    let u = f .before in
-    let w3 = u .before .before in
-    let w2 = w3 .before in
-    let w1 = w2 .before in
-    read-fields (now (w1 .before .before .before .args .s)) (w1 .u64-at .result) (w2 .u64-at2 .result) (w3 .u64-at3 .result)
-    (w1 .before .if1 .left) (w1 .u64-at .ensures) (w2 .u64-at2 .ensures) (w3 .u64-at3 .ensures)
-    (omega (arith, w2 .u64-at2)) (omega (arith, w3 .u64-at3))
-    (u .unpack .result) false (u .unpack .ensures) (sym (c .if3 .left) ∙ f .well-formed .ensures) (u .before .if2 .left)
+returns-4 c = judged (c .before) false (c .if3 .left)
 
 pub read-spec : {M : Type 1} → statement M
 read-spec =
