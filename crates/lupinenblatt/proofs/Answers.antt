@@ -1,7 +1,7 @@
 -- What the calls for C answer, from what the record's reader and writer do.
 -- Assumes nothing.
 use mathlib.Core.Path.{_≡_, refl, sym, ap, _∙_}
-use mathlib.Core.Bool.{Bool, true, false, _&&_, and-false}
+use mathlib.Core.Bool.{Bool, true, false, _&&_}
 use mathlib.Core.List.{List, [], _∷_, _++_, append-nil}
 use Prim.Native.Nat.{ℕ, _<_}
 use native.Mathlib.Nat.{zero-add, le-of-eq}
@@ -16,6 +16,7 @@ use Rattle.model.specs.Numbers.{tenDigits}
 use Rattle.model.specs.Record.{named, kindFits, fitsBits, wellFormed}
 use Rattle.record.specs.Layout.{tenOf, Written}
 use Rattle.record.proofs.Inverse.{bits-at}
+use Rattle.record.proofs.Codec.{refused-fields}
 use Rattle.lupinenblatt.specs.Calls.{handedTo, handedNumber, Handed, Narrow}
 
 -- ---- reading
@@ -65,5 +66,4 @@ narrow e b q f =
 pub wide-refused : (e : Event) (xs : List ℕ) (b : Bool) → b ≡ fitsBits e → b ≡ false → Written e xs xs 2
 unfolding wellFormed
 wide-refused e xs b q f =
-    let w : wellFormed e ≡ false = ap (λ (k : Bool). k && tenDigits (e .tn .0) && named (e .time) && kindFits e) (sym q ∙ f) in
-    record { after = simp (w, and-false); said = simp (w, and-false) }
+    refused-fields e xs (ap (λ (k : Bool). k && tenDigits (e .tn .0) && named (e .time) && kindFits e) (sym q ∙ f))

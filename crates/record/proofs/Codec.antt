@@ -1,7 +1,7 @@
 -- What `read` finds and what `write` leaves, by the record's three words.
 -- Assumes nothing.
 use mathlib.Core.Path.{_≡_, refl, sym, ap, _∙_}
-use mathlib.Core.Bool.{Bool, true, false, cond}
+use mathlib.Core.Bool.{Bool, true, false, cond, and-false}
 use mathlib.Core.List.{List, [], _∷_, _++_, append-nil}
 use Prim.Native.Nat.{ℕ, _+_, _*_, _%_, _^_, _<_}
 use native.Mathlib.Omega.{arith}
@@ -13,12 +13,16 @@ use Rattle.octets.specs.Fields.{cut}
 use Rattle.model.specs.declared.Event.{Event}
 use Rattle.model.specs.declared.Reading.the-variants.{Record, Malformed}
 use Rattle.model.specs.Record.{wellFormed}
-use Rattle.record.specs.Layout.{widths, bytesOf, readFields, readEvent, writable, Written}
+use Rattle.record.specs.Layout.{widths, bytesOf, readFields, readEvent, Written}
 use Rattle.record.specs.InWords.{eventOfWords, words, Fitted, Packed}
 use Rattle.record.proofs.Spans.{event-in-words, spare-in-words, packed-joined}
 use Rattle.record.proofs.Inverse.{bits-at, formed-bits}
 
 -- ---- reading
+
+pub read-length : (xs : List ℕ) → (length xs ≡ 24 → ⊥) → Malformed ≡ readEvent xs
+unfolding readEvent
+read-length xs n = simp (ne-eqb (length xs) 24 n)
 
 be-words : (xs : List ℕ) → be 24 xs 0 ≡ words (be 8 xs 0) (be 8 xs 8) (be 8 xs 16)
 be-words xs = be-add xs 16 8 0 ∙ ap (λ (k : ℕ). k * 2 ^ 64 + be 8 xs 16) (be-add xs 8 8 0)
@@ -68,5 +72,8 @@ written e xs ys zs us a b c h w j hb hc s1 s2 s3 =
       said = simp (eq-eqb (length xs) 24 h, w);
     }
 
-pub refused : (e : Event) (xs : List ℕ) → writable e xs ≡ false → Written e xs xs 2
-refused e xs f = record { after = simp f; said = simp f }
+pub refused-length : (e : Event) (xs : List ℕ) → (length xs ≡ 24 → ⊥) → Written e xs xs 2
+refused-length e xs n = record { after = simp (ne-eqb (length xs) 24 n); said = simp (ne-eqb (length xs) 24 n) }
+
+pub refused-fields : (e : Event) (xs : List ℕ) → wellFormed e ≡ false → Written e xs xs 2
+refused-fields e xs f = record { after = simp (f, and-false); said = simp (f, and-false) }

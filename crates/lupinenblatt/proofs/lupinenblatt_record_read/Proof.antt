@@ -1,4 +1,5 @@
 use mathlib.Core.Path.{sym, _∙_}
+use native.Mathlib.Omega.{arith}
 use denote.Ref.{now}
 use Rattle.record.specs.Layout.{readEvent}
 use Rattle.lupinenblatt.proofs.Answers.{handed-refused, handed-record, handed-malformed}
@@ -7,7 +8,7 @@ use Rattle.lupinenblatt.proofs.lupinenblatt_record_read.Statement.{stat
 use Rattle.lupinenblatt.proofs.lupinenblatt_record_read.Tie as tie
 
 returns : tie.Need-returns
-returns c = handed-refused _ _ (c .if1 .taken)
+returns c = handed-refused _ _ (λ q. omega arith)
 
 read-requires : tie.Need-read-requires
 read-requires c κs = search needs
@@ -31,7 +32,7 @@ returns-2 c =
     let r = g .before .before in
     let a = r .before .before .before .before .args in
     handed-record (readEvent (now (a .bytes))) (g .got .given .0 .0) (now (a .fields)) (t .store .last .1 .0)
-    (sym (r .read .ensures) ∙ g .got .given .1) (r .before .if1 .left) (t .store .ensures)
+    (sym (r .read .ensures) ∙ g .got .given .1) (omega (arith, r .before)) (t .store .ensures)
 
 returns-3 : tie.Need-returns-3
 returns-3 c = handed-malformed _ _ (sym (c .before .before .read .ensures) ∙ c .enum-told .given .1)

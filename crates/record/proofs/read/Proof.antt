@@ -1,18 +1,16 @@
 use mathlib.Core.Path.{_≡_, sym, _∙_}
 use mathlib.Core.Bool.{Bool, true, false, cond}
 use native.Mathlib.Omega.{arith}
-use borrow.Author.Tests.{ne-eqb}
 use denote.Ref.{now}
 use Rattle.model.specs.declared.Reading.the-variants.{Record, Malformed}
 use Rattle.record.specs.Layout.{readEvent}
-use Rattle.record.proofs.Codec.{read-spare, read-fields}
+use Rattle.record.proofs.Codec.{read-length, read-spare, read-fields}
 use borrow.Author.Needs.{needs}
 use Rattle.record.proofs.read.Statement.{statement}
 use Rattle.record.proofs.read.Tie as tie
 
 returns : tie.Need-returns
-unfolding readEvent
-returns c = simp (ne-eqb _ _ (c .if1 .taken))
+returns c = read-length _ (λ q. omega arith)
 
 u64-at-requires : tie.Need-u64-at-requires
 u64-at-requires c κs = search needs
@@ -29,7 +27,7 @@ returns-2 c =
     let w2 = w3 .before in
     let w1 = w2 .before in
     read-spare (now (w1 .before .before .before .args .s)) (w1 .u64-at .result) (w2 .u64-at2 .result) (w3 .u64-at3 .result)
-    (w1 .before .if1 .left) (w1 .u64-at .ensures) (w2 .u64-at2 .ensures) (w3 .u64-at3 .ensures)
+    (omega (arith, w1 .before)) (w1 .u64-at .ensures) (w2 .u64-at2 .ensures) (w3 .u64-at3 .ensures)
     (omega (arith, w2 .u64-at2)) (omega (arith, w3 .u64-at3)) (c .if2 .taken)
 
 unpack-requires : tie.Need-unpack-requires
@@ -47,7 +45,7 @@ judged f w q =
     let w2 = w3 .before in
     let w1 = w2 .before in
     read-fields (now (w1 .before .before .before .args .s)) (w1 .u64-at .result) (w2 .u64-at2 .result) (w3 .u64-at3 .result)
-    (w1 .before .if1 .left) (w1 .u64-at .ensures) (w2 .u64-at2 .ensures) (w3 .u64-at3 .ensures)
+    (omega (arith, w1 .before)) (w1 .u64-at .ensures) (w2 .u64-at2 .ensures) (w3 .u64-at3 .ensures)
     (omega (arith, w2 .u64-at2)) (omega (arith, w3 .u64-at3))
     (u .unpack .result) w (u .unpack .ensures) (sym q ∙ f .well-formed .ensures) (u .before .if2 .left)
 

@@ -1,8 +1,7 @@
 use mathlib.Core.Path.{sym, _∙_}
-use borrow.Author.Tests.{ne-eqb, eq-eqb}
 use native.Mathlib.Omega.{arith}
 use denote.Ref.{now}
-use Rattle.record.proofs.Codec.{fitted, written, refused}
+use Rattle.record.proofs.Codec.{fitted, written, refused-length, refused-fields}
 use borrow.Author.Needs.{needs}
 use Rattle.record.proofs.write.Statement.{statement}
 use Rattle.record.proofs.write.Tie as tie
@@ -10,7 +9,7 @@ use Rattle.record.proofs.write.Tie as tie
 returns : tie.Need-returns
 returns c =
     let a = c .before .before .args in
-    refused (a .e) (now (a .out)) (simp (ne-eqb _ _ (c .if1 .taken)))
+    refused-length (a .e) (now (a .out)) (λ q. omega arith)
 
 well-formed-requires : tie.Need-well-formed-requires
 well-formed-requires c κs = search needs
@@ -40,7 +39,7 @@ returns-2 c =
     let a = f .before .before .before .args in
     let w = k .pack .result in
     written (a .e) (now (a .out)) (w1 .put-u64 .last .0) (w2 .put-u642 .last .0) (w3 .put-u643 .last .0) (w .first) (w .second) (w .third)
-    (f .before .if1 .left) (sym (f .well-formed .ensures) ∙ k .before .if2 .taken)
+    (omega (arith, f .before)) (sym (f .well-formed .ensures) ∙ k .before .if2 .taken)
     (k .pack .ensures) (omega (arith, k .pack)) (omega (arith, k .pack))
     (w1 .put-u64 .ensures) (w2 .put-u642 .ensures) (w3 .put-u643 .ensures)
 
@@ -48,7 +47,7 @@ returns-3 : tie.Need-returns-3
 returns-3 c =
     let a = c .before .before .before .before .args in
     let f = c .before in
-    refused (a .e) (now (a .out)) (simp (eq-eqb _ _ (f .before .if1 .left), sym (f .well-formed .ensures) ∙ c .if2 .left))
+    refused-fields (a .e) (now (a .out)) (sym (f .well-formed .ensures) ∙ c .if2 .left)
 
 pub write-spec : {M : Type 1} → statement M
 write-spec =

@@ -66,7 +66,7 @@ returns-8 c =
     simp z
 
 returns-9 : tie.Need-returns-9
-returns-9 c = sym (above (c .before .before .before .args .e) (c .if2 .left))
+returns-9 c = sym (above (c .before .before .before .args .e) (omega arith))
 
 returns-10 : tie.Need-returns-10
 unfolding kindFits
@@ -76,7 +76,7 @@ returns-10 c =
     (λ w. simp (w .keys8))
     (λ w.
     let r = w .0 .rest in
-    plain (c .before .before .args .e) (w .1 .left) (w .2 .taken)
+    plain (c .before .before .args .e) (omega (arith, w .1)) (omega (arith, w .2))
     (r .0 .0 .0 .0 .0 .0 .0 .1)
     (r .0 .0 .0 .0 .0 .0 .1)
     (r .0 .0 .0 .0 .0 .1)
