@@ -2,30 +2,19 @@
 -- Assumes nothing.
 use mathlib.Core.Path.{_≡_}
 use mathlib.Core.Bool.{cond}
-use mathlib.Core.List.{List}
+use mathlib.Core.List.{List, [], _∷_}
 use Prim.Native.Nat.{ℕ, _<_}
 use lib.ListN.{length}
 use lib.Dec.{eqb}
 use Rattle.model.specs.declared.Event.{Event}
 use Rattle.model.specs.declared.Reading.{Reading}
 use Rattle.model.specs.declared.Reading.the-variants.{Record, Malformed}
-use Rattle.record.specs.Layout.{tenOf}
+use Rattle.record.specs.Layout.{tenOf, eventOf}
 
 -- the event with these fields, whatever numbers they are [E1]
 abbrev pub event : ℕ → ℕ → ℕ → ℕ → ℕ → ℕ → ℕ → ℕ → ℕ → ℕ → Event
 event kind sender other mark cause tn lrn version time due =
-    record {
-      kind = kind;
-      sender = sender;
-      other = other;
-      mark = mark;
-      cause = cause;
-      tn = record { 0 = tn };
-      lrn = record { 0 = lrn };
-      version = version;
-      time = time;
-      due = due;
-    }
+    eventOf (kind ∷ sender ∷ other ∷ mark ∷ cause ∷ tn ∷ lrn ∷ version ∷ time ∷ due ∷ [])
 
 -- what a reading leaves in the places xs: the ten fields where there are ten places, or what was there [F4]
 unfoldable pub handedTo : Reading → List ℕ → List ℕ

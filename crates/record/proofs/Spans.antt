@@ -9,7 +9,7 @@ use lib.Pow.{pow-add, high, field, shr-shr, mod-pow-add}
 use Rattle.octets.specs.Fields.{total, cut, join}
 use Rattle.model.specs.declared.Event.{Event}
 use Rattle.record.specs.Layout.{widths, fieldsOf, eventOf}
-use Rattle.record.specs.InWords.{firstWidths, secondWidths, thirdWidths, eventOfWords, words, Packed}
+use Rattle.record.specs.InWords.{firstWidths, secondWidths, thirdWidths, whole, eventOfWords, words, Packed}
 
 -- ---- two lists of widths in a row
 
@@ -56,21 +56,6 @@ cut-append ws vs a b h =
 abbrev parts : List ℕ
 parts = firstWidths ++ secondWidths ++ thirdWidths
 
-abbrev eventOfTwelve : List ℕ → Event
-eventOfTwelve fs =
-    record {
-      kind = getD fs 0 0;
-      sender = getD fs 1 0;
-      other = getD fs 2 0;
-      mark = getD fs 3 0;
-      cause = getD fs 4 0;
-      tn = record { 0 = getD fs 5 0 };
-      lrn = record { 0 = getD fs 6 0 };
-      version = getD fs 7 0;
-      time = getD fs 8 0 * 2 ^ 18 + getD fs 9 0;
-      due = getD fs 10 0;
-    }
-
 parts-cut : (a b c : ℕ) → b < 2 ^ 64 → c < 2 ^ 64
     → cut parts (words a b c) ≡ (cut firstWidths a ++ cut secondWidths b) ++ cut thirdWidths c
 parts-cut a b c hb hc =
@@ -83,7 +68,7 @@ time-parts n =
 
 -- READING: the fields of the 192 bits are those of the words
 pub event-in-words : (a b c : ℕ) → b < 2 ^ 64 → c < 2 ^ 64 → eventOf (cut widths (words a b c)) ≡ eventOfWords a b c
-event-in-words a b c hb hc = rw (time-parts (words a b c)) (ap eventOfTwelve (parts-cut a b c hb hc))
+event-in-words a b c hb hc = rw (time-parts (words a b c)) (ap (λ (fs : List ℕ). eventOf (whole fs)) (parts-cut a b c hb hc))
 
 pub spare-in-words : (a b c : ℕ) → b < 2 ^ 64 → c < 2 ^ 64 → getD (cut widths (words a b c)) 10 0 ≡ c % 2 ^ 14
 spare-in-words a b c hb hc =

@@ -2,11 +2,12 @@
 -- in proofs/Spans.
 -- Assumes nothing.
 use mathlib.Core.Path.{_≡_}
-use mathlib.Core.List.{List, [], _∷_}
+use mathlib.Core.List.{List, [], _∷_, _++_}
 use Prim.Native.Nat.{ℕ, _+_, _*_, _/_, _%_, _^_, _<_}
-use lib.ListN.{getD}
+use lib.ListN.{getD, take, drop}
 use Rattle.octets.specs.Fields.{cut, join}
 use Rattle.model.specs.declared.Event.{Event}
+use Rattle.record.specs.Layout.{eventOf}
 
 -- kind, sender, other, authorization or result, cause, TN
 abbrev pub firstWidths : List ℕ
@@ -20,24 +21,12 @@ secondWidths = 34 ∷ 16 ∷ 14 ∷ []
 abbrev pub thirdWidths : List ℕ
 thirdWidths = 18 ∷ 32 ∷ 14 ∷ []
 
--- the event whose words have these fields
-abbrev pub eventOfParts : List ℕ → List ℕ → List ℕ → Event
-eventOfParts x y z =
-    record {
-      kind = getD x 0 0;
-      sender = getD x 1 0;
-      other = getD x 2 0;
-      mark = getD x 3 0;
-      cause = getD x 4 0;
-      tn = record { 0 = getD x 5 0 };
-      lrn = record { 0 = getD y 0 0 };
-      version = getD y 1 0;
-      time = getD y 2 0 * 2 ^ 18 + getD z 0 0;
-      due = getD z 1 0;
-    }
+-- the fields of the three words in a row, with the time's two parts as one
+abbrev pub whole : List ℕ → List ℕ
+whole fs = take 8 fs ++ ((getD fs 8 0 * 2 ^ 18 + getD fs 9 0) ∷ drop 10 fs)
 
 abbrev pub eventOfWords : ℕ → ℕ → ℕ → Event
-eventOfWords a b c = eventOfParts (cut firstWidths a) (cut secondWidths b) (cut thirdWidths c)
+eventOfWords a b c = eventOf (whole ((cut firstWidths a ++ cut secondWidths b) ++ cut thirdWidths c))
 
 -- three words as one number
 abbrev pub words : ℕ → ℕ → ℕ → ℕ
