@@ -9,13 +9,14 @@ use native.Mathlib.Omega.{arith}
 use borrow.Author.Tests.{eq-eqb, ne-eqb}
 use lib.ListN.{length, drop, drop-of-length-le}
 use lib.Seq.{sets, sets-eq}
+use lib.Dec.{eqb}
 use Rattle.model.specs.declared.Event.{Event}
 use Rattle.model.specs.declared.Reading.{Reading}
 use Rattle.model.specs.declared.Reading.the-variants.{Record, Malformed}
 use Rattle.model.specs.Numbers.{tenDigits}
 use Rattle.model.specs.Record.{named, kindFits, fitsBits, wellFormed}
-use Rattle.record.specs.Layout.{tenOf, Written}
-use Rattle.record.proofs.Inverse.{bits-at}
+use Rattle.record.specs.Layout.{tenOf, eventOf, Written}
+use Rattle.record.proofs.Inverse.{bits-at, said-done}
 use Rattle.record.proofs.Codec.{refused-fields}
 use Rattle.lupinenblatt.specs.Calls.{handedTo, handedNumber, Handed, Narrow}
 
@@ -41,6 +42,21 @@ handed-record r e xs ys q h p = record { after = rw q (simp (eq-eqb (length xs) 
 pub handed-malformed : (r : Reading) (xs : List ℕ) → r ≡ Malformed → Handed r xs xs 2
 unfolding handedTo handedNumber
 handed-malformed r xs q = record { after = rw q; said = rw q }
+
+-- what a reading of a record hands to ten places
+pub handed-is : (r : Reading) (e : Event) (xs ys : List ℕ) (n : ℕ) → r ≡ Record e → length xs ≡ 10 → Handed r xs ys n → (ys ≡ tenOf e) × (n ≡ 0)
+unfolding handedTo handedNumber
+handed-is r e xs ys n q l h =
+    (h .after ∙ rw q (simp (eq-eqb (length xs) 10 l)), h .said ∙ rw q (simp (eq-eqb (length xs) 10 l)))
+
+-- a reading that says 0 was of a record, and handed it over
+pub handed-done : (r : Reading) (xs ys : List ℕ) → Handed r xs ys 0 → r ≡ Record (eventOf ys)
+unfolding handedTo handedNumber
+handed-done (Record e) xs ys h =
+    let b : eqb (length xs) 10 ≡ true = said-done (eqb (length xs) 10) (h .said) in
+    let p : ys ≡ tenOf e = h .after ∙ simp b in
+    ap (λ (l : List ℕ). Record (eventOf l)) (sym p)
+handed-done Malformed xs ys h = absurd (omega (arith, h .said))
 
 -- ---- writing
 

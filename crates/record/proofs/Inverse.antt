@@ -36,7 +36,11 @@ formed-bits e w =
     let t : Bool = named (e .time) in
     and-l f n (and-l (f && n) t (and-l (f && n && t) (kindFits e) w))
 
--- ---- an answer that is a record
+-- ---- answers
+
+pub said-done : (b : Bool) → _≡_ {A = ℕ} 0 (cond b 0 2) → b ≡ true
+said-done true q = refl
+said-done false q = absurd (omega arith)
 
 record-malformed : (e : Event) → Malformed ≡ Record e → ⊥
 record-malformed e q = let z : _≡_ {A = ℕ} 0 1 = cc in omega arith

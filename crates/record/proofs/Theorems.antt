@@ -1,27 +1,30 @@
 -- The top statements on the event record. Each is about the definitions that the promises of `read` and `write` cite.
 -- Assumes nothing.
-use mathlib.Core.Path.{_≡_, sym, _∙_}
-use mathlib.Core.Bool.{true}
+use mathlib.Core.Path.{_≡_, sym, ap, _∙_}
+use mathlib.Core.Bool.{Bool, true, cond}
 use mathlib.Core.List.{List}
 use Prim.Native.Nat.{ℕ}
 use borrow.Author.Tests.{eq-eqb}
 use lib.ListN.{length}
+use lib.Dec.{eqb}
 use Rattle.octets.specs.Octets.{Bytes}
 use Rattle.octets.specs.Laws.{bytes-digits, length-digits}
-use Rattle.octets.specs.Fields.{join}
+use Rattle.octets.specs.Fields.{join, and-r}
 use Rattle.model.specs.declared.Event.{Event}
 use Rattle.model.specs.declared.Reading.the-variants.{Record}
 use Rattle.model.specs.Record.{wellFormed}
-use Rattle.record.specs.Layout.{widths, fieldsOf, bytesOf, readEvent, Written}
-use Rattle.record.proofs.Inverse.{record-one, read-written, written-read, read-formed-only}
+use Rattle.record.specs.Layout.{widths, fieldsOf, bytesOf, readEvent, writable, Written}
+use Rattle.record.proofs.Inverse.{said-done, record-one, read-written, written-read, read-formed-only}
 
 -- A well-formed record reads to its fields: read answers a record only for well-formed fields. [E5]
 pub read-is-formed : (xs : List ℕ) (e : Event) → readEvent xs ≡ Record e → wellFormed e ≡ true
 read-is-formed xs e q = read-formed-only xs e q
 
--- WRITE, THEN READ: the record of well-formed fields reads to these fields. [E6]
-pub write-then-read : (e : Event) → wellFormed e ≡ true → readEvent (bytesOf e) ≡ Record e
-write-then-read e w = read-written e w
+-- WRITE, THEN READ: the bytes that a write has left, saying 0, read to the fields that it was given. [E6]
+pub write-then-read : (e : Event) (xs ys : List ℕ) → Written e xs ys 0 → readEvent ys ≡ Record e
+write-then-read e xs ys w =
+    let q : writable e xs ≡ true = said-done (writable e xs) (w .said) in
+    ap readEvent (w .after ∙ ap (λ (b : Bool). cond b (bytesOf e) xs) q) ∙ read-written e (and-r (eqb (length xs) 24) (wellFormed e) q)
 
 -- READ, THEN WRITE: what was read writes back to the same bytes, on any 24 bytes, and says 0. [E6]
 pub read-then-write : (xs : List ℕ) → Bytes xs → (e : Event) → readEvent xs ≡ Record e
