@@ -76,7 +76,7 @@ returns-10 c =
     (λ w. simp (w .keys8))
     (λ w.
     let r = w .0 .rest in
-    plain (c .before .before .args .e) (omega (arith, w .1)) (omega (arith, w .2))
+    plain (c .before .before .args .e) (w .1 .left) (w .2 .taken)
     (r .0 .0 .0 .0 .0 .0 .0 .1)
     (r .0 .0 .0 .0 .0 .0 .1)
     (r .0 .0 .0 .0 .0 .1)
