@@ -1,12 +1,11 @@
 -- The top statements on the calls for C, each about what the promises cite.
 -- Assumes nothing.
-use mathlib.Core.Path.{_≡_, sym, ap, _∙_}
+use mathlib.Core.Path.{_≡_, sym, _∙_}
 use mathlib.Core.List.{List}
 use Prim.Native.Nat.{ℕ, _<_}
 use lib.ListN.{length, getD}
 use Rattle.model.specs.declared.Event.{Event}
 use Rattle.model.specs.declared.Reading.{Reading}
-use Rattle.model.specs.declared.Reading.the-variants.{Record}
 use Rattle.record.specs.Layout.{tenOf, eventOf, readEvent, Written}
 use Rattle.record.proofs.Theorems.{write-then-read, read-then-write}
 use Rattle.lupinenblatt.specs.Calls.{Handed}

@@ -2,7 +2,7 @@
 -- Assumes nothing.
 use mathlib.Core.Path.{_≡_, refl, sym, ap, _∙_}
 use mathlib.Core.Bool.{Bool, true, false, cond, _&&_, and-assoc, and-true}
-use mathlib.Core.List.{List, [], _∷_, append-nil}
+use mathlib.Core.List.{List, [], append-nil}
 use Prim.Native.Nat.{ℕ, _^_, _<_}
 use native.Mathlib.Nat.{mod-eq-of-lt, le-of-eq}
 use native.Mathlib.Omega.{arith}
@@ -76,13 +76,13 @@ read-written e w =
 
 -- ---- read, then write
 
-bytes-are : (xs : List ℕ) (e : Event) → readEvent xs ≡ Record e → (length xs ≡ 24) × (readFields (cut widths (be 24 xs 0)) ≡ Record e)
+pub bytes-are : (xs : List ℕ) (e : Event) → readEvent xs ≡ Record e → (length xs ≡ 24) × (readFields (cut widths (be 24 xs 0)) ≡ Record e)
 unfolding readEvent
 bytes-are xs e q =
     let t = answers-record (eqb (length xs) 24) (readFields (cut widths (be 24 xs 0))) e q in
     (eqb-true (length xs) 24 (t .0), t .1)
 
-fields-are : (fs : List ℕ) (e : Event) → readFields fs ≡ Record e → (getD fs 10 0 ≡ 0) × (wellFormed e ≡ true) × (eventOf fs ≡ e)
+pub fields-are : (fs : List ℕ) (e : Event) → readFields fs ≡ Record e → (getD fs 10 0 ≡ 0) × (wellFormed e ≡ true) × (eventOf fs ≡ e)
 unfolding readFields
 fields-are fs e q =
     let s : Bool = eqb (getD fs 10 0) 0 in
@@ -108,6 +108,3 @@ written-read xs h e q =
     ∙ bytes-back n (be-lt xs h 24 0) (b .0)
     ∙ digits-be xs h 24 0 (le-of-eq (sym (a .0)))
     ∙ take-all 24 xs (le-of-eq (a .0))
-
-pub read-formed-only : (xs : List ℕ) (e : Event) → readEvent xs ≡ Record e → wellFormed e ≡ true
-read-formed-only xs e q = fields-are (cut widths (be 24 xs 0)) e (bytes-are xs e q .1) .1

@@ -7,18 +7,18 @@ use Prim.Native.Nat.{ℕ}
 use borrow.Author.Tests.{eq-eqb}
 use lib.ListN.{length}
 use lib.Dec.{eqb}
-use Rattle.octets.specs.Octets.{Bytes}
+use Rattle.octets.specs.Octets.{Bytes, be}
 use Rattle.octets.specs.Laws.{bytes-digits, length-digits}
-use Rattle.octets.specs.Fields.{join, and-r}
+use Rattle.octets.specs.Fields.{cut, join, and-r}
 use Rattle.model.specs.declared.Event.{Event}
 use Rattle.model.specs.declared.Reading.the-variants.{Record}
 use Rattle.model.specs.Record.{wellFormed}
 use Rattle.record.specs.Layout.{widths, fieldsOf, bytesOf, readEvent, writable, Written}
-use Rattle.record.proofs.Inverse.{said-done, record-one, read-written, written-read, read-formed-only}
+use Rattle.record.proofs.Inverse.{said-done, record-one, read-written, written-read, bytes-are, fields-are}
 
--- A well-formed record reads to its fields: read answers a record only for well-formed fields. [E5]
+-- Reading answers a record only for well-formed fields. [E5]
 pub read-is-formed : (xs : List ℕ) (e : Event) → readEvent xs ≡ Record e → wellFormed e ≡ true
-read-is-formed xs e q = read-formed-only xs e q
+read-is-formed xs e q = fields-are (cut widths (be 24 xs 0)) e (bytes-are xs e q .1) .1
 
 -- WRITE, THEN READ: the bytes that a write has left, saying 0, read to the fields that it was given. [E6]
 pub write-then-read : (e : Event) (xs ys : List ℕ) → Written e xs ys 0 → readEvent ys ≡ Record e
@@ -30,7 +30,7 @@ write-then-read e xs ys w =
 pub read-then-write : (xs : List ℕ) → Bytes xs → (e : Event) → readEvent xs ≡ Record e
     → (ys zs : List ℕ) (r : ℕ) → length ys ≡ 24 → Written e ys zs r → (zs ≡ xs) × (r ≡ 0)
 read-then-write xs h e q ys zs r l w =
-    let f : wellFormed e ≡ true = read-formed-only xs e q in
+    let f : wellFormed e ≡ true = read-is-formed xs e q in
     (w .after ∙ simp (eq-eqb (length ys) 24 l, f) (written-read xs h e q), w .said ∙ simp (eq-eqb (length ys) 24 l, f))
 
 -- EVERY VALID SET OF FIELDS HAS ONE RECORD: 24 bytes that read to it, and no others. [E6]
