@@ -7,20 +7,20 @@ use mathlib.Core.List.{List, [], _∷_}
 use lib.Dec.{eqb, leb, ltb}
 use native.Mathlib.Omega.{arith}
 use borrow.Author.Tests.{eqb-true, lt-ltb, eq-eqb}
-use Rattle.systems.specs.Set.{member}
+use Rattle.systems.specs.Set.{member, meet}
 use Rattle.model.specs.Basics.{among, iff, implies, every}
 use Rattle.model.specs.Numbers.{tenDigits, isTime, isProvider, isSet}
 use Rattle.model.specs.Retries.{used, noRetries}
 use Rattle.model.specs.Sound.{pending, cancelPending, failure, partialFailure, active, isPurposed, isSending, activate, modify, disconnect, newWhole, setsApart, retriesFit, retriesInRange, liveConfirmed, sidesNeeded}
 use Rattle.model.specs.Record.{isBroadcast, named, unused, modifiesActive, wellFormed}
 use Rattle.model.specs.Standing.{standingOf, standsFor, statusFor}
-use Rattle.model.specs.Broadcast.{resends, purposeFor, both, askedFor, newFor, opened}
+use Rattle.model.specs.Broadcast.{resends, purposeFor, askedFor, newFor, opened}
 use Rattle.model.proofs.Lists.{clash, and-l, and-r, both-true, conj-at}
 use Rattle.model.proofs.Arrivals.{member-none}
 use Rattle.model.proofs.Digits.{used-none}
 use Rattle.model.proofs.Formed.{Fields, fields, at-kind}
 use Rattle.model.proofs.SoundRows.{CastRanges, cast-ranges, ranges-cast, Row}
-use Rattle.model.proofs.SoundSets.{every-all, set-none, set-both, Apart, both-in, both-none}
+use Rattle.model.proofs.SoundSets.{every-all, set-none, set-meet, Apart, meet-in, meet-none}
 use Rattle.model.proofs.SoundCasts.{Casting, purposed-created, no-canceller}
 use Rattle.model.proofs.SoundAnswers.{time-is, parted-of, of-parted}
 use Rattle.model.specs.declared.NewSide.{NewSide}
@@ -163,14 +163,14 @@ module _ (selected : ℕ) (set : isSet selected ≡ true) (e : Event) (formed : 
       go false p false q false r = clash (rw (p, q, r) at h)
 
   aim-resend : among (v .status) (failure ∷ partialFailure ∷ active ∷ []) ≡ true
-      → Aim (v .cast .purpose) (v .cast .confirmed) (both (v .cast .failed) selected)
+      → Aim (v .cast .purpose) (v .cast .confirmed) (meet (v .cast .failed) selected)
   aim-resend h = record {
     small = r .purpose;
     some = is (ltb 0 (v .cast .purpose)) (rw (s .purposed) at (and-l (iff (ltb 0 (v .cast .purpose)) (isPurposed (v .status))) _ (row .purpose)));
     lasting = s .lasting;
     conf = r .confirmed;
     wait = both-set;
-    cw = record { out = λ p l m q. go p l m q (member (both (v .cast .failed) selected) p) refl };
+    cw = record { out = λ p l m q. go p l m q (member (meet (v .cast .failed) selected) p) refl };
     confirms = more (v .live && eqb (v .cast .purpose) activate) (ltb 0 (v .cast .confirmed)) (eqb (v .cast .failed) 0) refl (row .confirmed);
     created = purposed-created v row (s .purposed);
     uncancelled = s .uncancelled;
@@ -186,33 +186,33 @@ module _ (selected : ℕ) (set : isSet selected ≡ true) (e : Event) (formed : 
       is true h = refl
       is false h = h
 
-      both-set : isSet (both (v .cast .failed) selected) ≡ true
-      both-set = set-both (v .cast .failed) selected
+      both-set : isSet (meet (v .cast .failed) selected) ≡ true
+      both-set = set-meet (v .cast .failed) selected
 
-      go : (p : ℕ) → 1 ≤ p → p ≤ 63 → member (v .cast .confirmed) p ≡ true → (b : Bool) → member (both (v .cast .failed) selected) p ≡ b
-          → member (both (v .cast .failed) selected) p ≡ false
+      go : (p : ℕ) → 1 ≤ p → p ≤ 63 → member (v .cast .confirmed) p ≡ true → (b : Bool) → member (meet (v .cast .failed) selected) p ≡ b
+          → member (meet (v .cast .failed) selected) p ≡ false
       go p l m q true e =
-          clash (sym (parted-of (v .cast) (row .apart) .cf .out p l m q) ∙ both-in (v .cast .failed) selected p l m e)
+          clash (sym (parted-of (v .cast) (row .apart) .cf .out p l m q) ∙ meet-in (v .cast .failed) selected p l m e)
       go p l m q false e = e
 
       and-two : (a b : Bool) → (a && b) ≡ true → b ≡ true
       and-two a b e = and-r a b e
 
       more : (x y z : Bool) → eqb (v .cast .failed) 0 ≡ z → implies x (y || (eqb (v .cast .waiting) 0 && z)) ≡ true
-          → implies x (y || (eqb (both (v .cast .failed) selected) 0 && true)) ≡ true
+          → implies x (y || (eqb (meet (v .cast .failed) selected) 0 && true)) ≡ true
       more false y z e q = refl
       more true true z e q = refl
       more true false z e q =
           let f : z ≡ true = and-two (eqb (v .cast .waiting) 0) z q in
           let n : v .cast .failed ≡ 0 = eqb-true (v .cast .failed) 0 (e ∙ f) in
-          rw (n, both-none selected)
+          rw (n, meet-none selected)
 
   aim : Aim (purposeFor e v) (cond (resends e) (v .cast .confirmed) 0) (askedFor selected e v)
   unfolding askedFor
   aim = go (eqb (e .kind) 14) refl (eqb (e .kind) 5) refl (eqb (e .kind) 9) refl (eqb (e .kind) 10) refl
     where
       go : (a : Bool) → eqb (e .kind) 14 ≡ a → (b : Bool) → eqb (e .kind) 5 ≡ b → (c : Bool) → eqb (e .kind) 9 ≡ c → (d : Bool) → eqb (e .kind) 10 ≡ d
-          → Aim (cond a (v .cast .purpose) (cond b activate (cond c modify disconnect))) (cond a (v .cast .confirmed) 0) (cond a (both (v .cast .failed) selected) selected)
+          → Aim (cond a (v .cast .purpose) (cond b activate (cond c modify disconnect))) (cond a (v .cast .confirmed) 0) (cond a (meet (v .cast .failed) selected) selected)
       go true p b q c x d y = aim-resend (status-at 14 p)
       go false p true q c x d y = aim-activate (status-at 5 q) (stands-new e v (eqb-true (standingOf e v) 0 (stands-at 5 q)))
       go false p false q true x d y = aim-other modify refl refl refl (status-at 9 x)

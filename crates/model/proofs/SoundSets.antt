@@ -8,12 +8,11 @@ use native.Mathlib.Nat.{pow-suc, add-mul-mod-self-right, add-zero}
 use native.Mathlib.Omega.{arith}
 use borrow.Author.Tests.{eqb-true, eqb-false, eq-eqb, ltb-true, ltb-false, lt-ltb, le-ltb, leb-true, le-leb, not-true, not-false}
 use lib.Pow.{pow-pos}
-use Rattle.systems.specs.Set.{member, maskOf}
+use Rattle.systems.specs.Set.{member, maskOf, meet}
 use Rattle.systems.specs.Laws.{in-le, out-fits, mask-lt, mask-member, with-same, with-other, without-same, without-other}
 use Rattle.model.specs.Basics.{every}
 use Rattle.model.specs.Numbers.{isSet}
 use Rattle.model.specs.Sound.{apart}
-use Rattle.model.specs.Broadcast.{both}
 use Rattle.model.proofs.Lists.{clash, and-l, and-r, both-true, none-true}
 use Rattle.model.proofs.Arrivals.{member-none}
 
@@ -124,18 +123,18 @@ apart-turned a b p r l m h = go (member a p) refl
     go false e = e
 
 -- those in both sets are in each
-pub both-in : (a b p : ℕ) → 1 ≤ p → p ≤ 63 → member (both a b) p ≡ true → member a p ≡ true
-unfolding both
-both-in a b p l m h =
+pub meet-in : (a b p : ℕ) → 1 ≤ p → p ≤ 63 → member (meet a b) p ≡ true → member a p ≡ true
+unfolding meet
+meet-in a b p l m h =
     and-l (member a p) (member b p) (sym (mask-member (λ (q : ℕ). member a q && member b q) 63 p l m) ∙ h)
 
-pub set-both : (a b : ℕ) → isSet (both a b) ≡ true
-unfolding both
-set-both a b = set-mask (λ (p : ℕ). member a p && member b p)
+pub set-meet : (a b : ℕ) → isSet (meet a b) ≡ true
+unfolding meet
+set-meet a b = set-mask (λ (p : ℕ). member a p && member b p)
 
-pub both-none : (b : ℕ) → both 0 b ≡ 0
-unfolding both maskOf
-both-none b = go 63
+pub meet-none : (b : ℕ) → meet 0 b ≡ 0
+unfolding meet maskOf
+meet-none b = go 63
   where
     go : (n : ℕ) → maskOf (λ (p : ℕ). member 0 p && member b p) n ≡ 0
     go zero = refl

@@ -6,11 +6,11 @@ use mathlib.Core.Bool.{Bool, true, false, _&&_}
 use mathlib.Core.List.{List, [], _∷_, map}
 use lib.Dec.{eqb}
 use lib.ListN.{length}
-use Rattle.systems.specs.Set.{member, maskOf, count as size}
+use Rattle.systems.specs.Set.{member, maskOf, meet, count as size}
 use Rattle.model.specs.Answers.{again, moved, heard, askedAgain, answers}
 use Rattle.model.specs.Basics.{every}
 use Rattle.model.specs.Books.{ownerOf, partnerOf, filters, soundMarks, soundCodes, soundFilters, soundSplits, soundBooks}
-use Rattle.model.specs.Broadcast.{both, askedFor, opened, broadcasts}
+use Rattle.model.specs.Broadcast.{askedFor, opened, broadcasts}
 use Rattle.model.specs.Changes.{newModified, oldModified, cancelled, acknowledged, ownCancel, resolved, windowTurned, windowMarked, windowSpent, windowRuns}
 use Rattle.model.specs.Closing.{closeTo, closed, retired, retires, closingTold, settled, settles, settlingTold}
 use Rattle.model.specs.Creates.{currentFor, freshVersion, fits, concurred, creates}
@@ -183,7 +183,7 @@ examples =
     given (asks12 0 256) [] (newSide 2 1 10 ∷ oldSide 1 2 9 ∷ oldSide 1 2 10 ∷ []) (0 ∷ 8 ∷ 0 ∷ []) (2 ∷ 0 ∷ 2 ∷ []) (row 1 0 0 false ∷ [])
     -- P2 Nobody selected: active at once, two messages.
     ∷ given asksNobody [] (newSide 2 1 10 ∷ oldSide 1 2 20 ∷ activation 2 1 100 ∷ []) (0 ∷ 0 ∷ 0 ∷ []) (2 ∷ 2 ∷ 2 ∷ []) (row 1 6 0 true ∷ [])
-    -- P3 Asked 1 and 2: both fail, failed, earlier live stays; one fails, partial-failure.
+    -- P3 Asked 1 and 2: fail, failed, earlier live stays; one fails, partial-failure.
     ∷ given (asks12 0 256) (liveOne ∷ []) (newSide 3 2 10 ∷ oldSide 2 3 20 ∷ activation 3 2 100 ∷ failing 1 2 101 ∷ failing 2 2 102 ∷ []) (0 ∷ 0 ∷ 0 ∷ 0 ∷ 0 ∷ []) (2 ∷ 2 ∷ 2 ∷ 0 ∷ 2 ∷ []) (row 1 6 0 true ∷ row 2 4 6 false ∷ [])
     ∷ given (asks12 0 256) (liveOne ∷ []) (newSide 3 2 10 ∷ oldSide 2 3 20 ∷ activation 3 2 100 ∷ failing 1 2 101 ∷ success 2 2 102 ∷ []) (0 ∷ 0 ∷ 0 ∷ 0 ∷ 0 ∷ []) (2 ∷ 2 ∷ 2 ∷ 0 ∷ 2 ∷ []) (row 1 7 0 false ∷ row 2 5 2 true ∷ [])
     -- P4 A second reply, before or after closing: 11.
@@ -220,13 +220,13 @@ slips =
 -- ---- the statements
 
 pub worked-examples : allPass examples ≡ true
-unfolding accepted acknowledged again answers apart askedAgain askedFor both broadcasts busy busyWith cancelled castInRange causeFits classOf closeTo closed closingTold concurred creates currentFor early every exhausted filters fits fitsBits freshVersion full gridRule heard inRange kindFits manages members moved newModified newWhole notCurrent octal oldModified oldWhole oneEach opened order ownCancel ownerOf partnerOf resolved retired retires retriesFit retriesInRange rule selectedFor setsApart settled settles settlingTold sidesNeeded skipped soundBooks soundCodes soundFilters soundLines soundMarks soundSplits soundTable soundVersion standingOf step unawaited unfit unready unsound used wellFormed windowMarked windowRuns windowSpent windowTurned withOctal withUsed member maskOf size same agree matches counted passes allPass examples
+unfolding accepted acknowledged again answers apart askedAgain askedFor broadcasts busy busyWith cancelled castInRange causeFits classOf closeTo closed closingTold concurred creates currentFor early every exhausted filters fits fitsBits freshVersion full gridRule heard inRange kindFits manages members moved newModified newWhole notCurrent octal oldModified oldWhole oneEach opened order ownCancel ownerOf partnerOf resolved retired retires retriesFit retriesInRange rule selectedFor setsApart settled settles settlingTold sidesNeeded skipped soundBooks soundCodes soundFilters soundLines soundMarks soundSplits soundTable soundVersion standingOf step unawaited unfit unready unsound used wellFormed windowMarked windowRuns windowSpent windowTurned withOctal withUsed member maskOf meet size same agree matches counted passes allPass examples
 worked-examples = refl
 
 pub the-listing : passes listing ≡ true
-unfolding accepted acknowledged again answers apart askedAgain askedFor both broadcasts busy busyWith cancelled castInRange causeFits classOf closeTo closed closingTold concurred creates currentFor early every exhausted filters fits fitsBits freshVersion full gridRule heard inRange kindFits manages members moved newModified newWhole notCurrent octal oldModified oldWhole oneEach opened order ownCancel ownerOf partnerOf resolved retired retires retriesFit retriesInRange rule selectedFor setsApart settled settles settlingTold sidesNeeded skipped soundBooks soundCodes soundFilters soundLines soundMarks soundSplits soundTable soundVersion standingOf step unawaited unfit unready unsound used wellFormed windowMarked windowRuns windowSpent windowTurned withOctal withUsed member maskOf size same agree matches counted passes allPass listing
+unfolding accepted acknowledged again answers apart askedAgain askedFor broadcasts busy busyWith cancelled castInRange causeFits classOf closeTo closed closingTold concurred creates currentFor early every exhausted filters fits fitsBits freshVersion full gridRule heard inRange kindFits manages members moved newModified newWhole notCurrent octal oldModified oldWhole oneEach opened order ownCancel ownerOf partnerOf resolved retired retires retriesFit retriesInRange rule selectedFor setsApart settled settles settlingTold sidesNeeded skipped soundBooks soundCodes soundFilters soundLines soundMarks soundSplits soundTable soundVersion standingOf step unawaited unfit unready unsound used wellFormed windowMarked windowRuns windowSpent windowTurned withOctal withUsed member maskOf meet size same agree matches counted passes allPass listing
 the-listing = refl
 
 pub slips-shut-out : allPass slips ≡ true
-unfolding accepted acknowledged again answers apart askedAgain askedFor both broadcasts busy busyWith cancelled castInRange causeFits classOf closeTo closed closingTold concurred creates currentFor early every exhausted filters fits fitsBits freshVersion full gridRule heard inRange kindFits manages members moved newModified newWhole notCurrent octal oldModified oldWhole oneEach opened order ownCancel ownerOf partnerOf resolved retired retires retriesFit retriesInRange rule selectedFor setsApart settled settles settlingTold sidesNeeded skipped soundBooks soundCodes soundFilters soundLines soundMarks soundSplits soundTable soundVersion standingOf step unawaited unfit unready unsound used wellFormed windowMarked windowRuns windowSpent windowTurned withOctal withUsed member maskOf size same agree matches counted passes allPass slips
+unfolding accepted acknowledged again answers apart askedAgain askedFor broadcasts busy busyWith cancelled castInRange causeFits classOf closeTo closed closingTold concurred creates currentFor early every exhausted filters fits fitsBits freshVersion full gridRule heard inRange kindFits manages members moved newModified newWhole notCurrent octal oldModified oldWhole oneEach opened order ownCancel ownerOf partnerOf resolved retired retires retriesFit retriesInRange rule selectedFor setsApart settled settles settlingTold sidesNeeded skipped soundBooks soundCodes soundFilters soundLines soundMarks soundSplits soundTable soundVersion standingOf step unawaited unfit unready unsound used wellFormed windowMarked windowRuns windowSpent windowTurned withOctal withUsed member maskOf meet size same agree matches counted passes allPass slips
 slips-shut-out = refl

@@ -4,7 +4,7 @@ use Prim.Native.Nat.{ℕ}
 use mathlib.Core.Bool.{Bool, true, false, cond, not, _&&_, _||_}
 use mathlib.Core.List.{List, [], _∷_, _++_}
 use lib.Dec.{eqb}
-use Rattle.systems.specs.Set.{member, maskOf}
+use Rattle.systems.specs.Set.{meet}
 use Rattle.model.specs.Books.{Books}
 use Rattle.model.specs.Selection.{selectedFor}
 use Rattle.model.specs.Retries.{noRetries}
@@ -24,13 +24,9 @@ resends e = eqb (e .kind) 14
 abbrev pub purposeFor : Event → Version → ℕ
 purposeFor e v = cond (resends e) (v .cast .purpose) (cond (eqb (e .kind) 5) activate (cond (eqb (e .kind) 9) modify disconnect))
 
--- those that are in both sets
-unfoldable pub both : ℕ → ℕ → ℕ
-both a b = maskOf (λ (p : ℕ). member a p && member b p) 63
-
 -- 5, 9, 10 ask all selected systems; 14 asks those failed that are selected now. [D2, D3]
 unfoldable pub askedFor : ℕ → Event → Version → ℕ
-askedFor selected e v = cond (resends e) (both (v .cast .failed) selected) selected
+askedFor selected e v = cond (resends e) (meet (v .cast .failed) selected) selected
 
 -- 9 replaces the LRN at once. [D1]
 abbrev pub newFor : Event → Version → NewSide

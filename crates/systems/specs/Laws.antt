@@ -1,9 +1,9 @@
 -- Laws of sets of providers as numbers.
 -- Assumes nothing.
 use mathlib.Core.Path.{_≡_, refl, sym, ap, ap₂, _∙_, subst}
-use mathlib.Core.Bool.{Bool, true, false, cond}
+use mathlib.Core.Bool.{Bool, true, false, cond, _&&_}
 use Prim.Native.Nat.{ℕ, zero, suc, _+_, _-_, _*_, _/_, _%_, _^_, _≤_, _<_}
-use native.Mathlib.Nat.{mod-lt, div-add-mod', pow-suc, le-div-iff-mul-le, add-comm, one-mul, add-zero, add-mul, mod-eq-of-lt, mod-one, div-eq-of-lt, add-div-right, add-mul-div-right, lt-of-lt-of-le, pow-le-pow-right}
+use native.Mathlib.Nat.{mod-lt, div-add-mod', pow-suc, le-div-iff-mul-le, add-comm, one-mul, add-zero, add-mul, mod-eq-of-lt, mod-one, div-eq-of-lt, add-div-right, add-mul-div-right, lt-of-lt-of-le, lt-of-le-of-lt, pow-le-pow-right, pow-zero, div-one}
 use native.Mathlib.Numerals.{add-one, one-add}
 use native.Mathlib.Omega.{arith}
 use borrow.Author.Tests.{eqb-true, eqb-false, eq-eqb, ltb-true, ltb-false}
@@ -11,7 +11,8 @@ use lib.Dec.{eqb, ltb, lit<}
 use lib.Arith.{digits-lt}
 use lib.Pow.{pow-pos, shr-lt, pow-add, mod-pow-add, shr-shr}
 use lib.Count.{ones, ones-cat}
-use Rattle.systems.specs.Set.{member, count, maskOf}
+use lib.Bits.{bitAnd, and-shr, and-mod, and-le-l}
+use Rattle.systems.specs.Set.{member, count, maskOf, meet}
 
 -- the digit of s at 2 ^ p
 unfoldable pub digit : ℕ → ℕ → ℕ
@@ -129,6 +130,10 @@ same-digit : (s t p : ℕ) → digit s p ≡ digit t p → member s p ≡ member
 unfolding digit member
 same-digit s t p e = ap (λ (x : ℕ). eqb x 1) e
 
+eq-digit : (s t p : ℕ) → s / 2 ^ p ≡ t / 2 ^ p → digit s p ≡ digit t p
+unfolding digit
+eq-digit s t p e = ap (λ (x : ℕ). x % 2) e
+
 digit-in : (s p : ℕ) → digit s p ≡ 1 → member s p ≡ true
 unfolding digit member
 digit-in s p e = eq-eqb _ _ e
@@ -216,3 +221,53 @@ ext-mod s t (suc k) h =
 
 pub ext : (w s t : ℕ) → s < 2 ^ w → t < 2 ^ w → ((p : ℕ) → p < w → member s p ≡ member t p) → s ≡ t
 ext w s t hs ht h = sym (mod-eq-of-lt hs) ∙ ext-mod s t w h ∙ mod-eq-of-lt ht
+
+-- ---- two sets that meet
+
+min-one : (u v : ℕ) → u < 2 → v < 2 → eqb (bitAnd u v) 1 ≡ eqb u 1 && eqb v 1
+min-one zero v h k = refl
+min-one (suc zero) zero h k = refl
+min-one (suc zero) (suc zero) h k = refl
+min-one (suc zero) (suc (suc v)) h k = absurd (omega arith)
+min-one (suc (suc u)) v h k = absurd (omega arith)
+
+pub member-and : (a b p : ℕ) → member (bitAnd a b) p ≡ member a p && member b p
+unfolding member
+member-and a b p =
+    let x : ℕ = a / 2 ^ p in
+    let y : ℕ = b / 2 ^ p in
+    ap (λ (k : ℕ). eqb (k % 2) 1) (and-shr a b p)
+    ∙ ap (λ (k : ℕ). eqb k 1) (and-mod x y 1)
+    ∙ min-one (x % 2) (y % 2) (mod-lt x (lit< tt)) (mod-lt y (lit< tt))
+
+-- nobody stands at place 0 of a set given by a test
+mask-zero : (f : ℕ → Bool) (n : ℕ) → member (maskOf f n) 0 ≡ false
+unfolding maskOf
+mask-zero f zero = digit-out 0 0 (digit-above 0 0 (lit< tt))
+mask-zero f (suc n) = go (f (suc n)) (mask-zero f n)
+  where
+    go : (b : Bool) → member (maskOf f n) 0 ≡ false → member (maskOf f n + cond b (2 ^ suc n) 0) 0 ≡ false
+    go true ih = same-digit _ _ 0 (digit-below (maskOf f n) (suc n) 0 (omega arith)) ∙ ih
+    go false ih = rw add-zero ih
+
+-- a number without its lowest digit
+even-zero : (x : ℕ) → member (x / 2 * 2) 0 ≡ false
+unfolding member
+even-zero x = rw (pow-zero, div-one) (ap (λ (k : ℕ). eqb k 1) (let e : x / 2 * 2 % 2 ≡ 0 = omega arith in e))
+
+even-other : (x p : ℕ) → member (x / 2 * 2) (suc p) ≡ member x (suc p)
+even-other x p =
+    let a : (y : ℕ) → y / 2 / 2 ^ p ≡ y / 2 ^ suc p = λ y. shr-shr y 1 p ∙ ap (λ (k : ℕ). y / 2 ^ k) (one-add p) in
+    let h : x / 2 * 2 / 2 ≡ x / 2 = omega arith in
+    same-digit (x / 2 * 2) x (suc p) (eq-digit (x / 2 * 2) x (suc p) (sym (a (x / 2 * 2)) ∙ ap (λ (k : ℕ). k / 2 ^ p) h ∙ a x))
+
+-- the meet of two sets, by their digits
+pub meet-and : (a b : ℕ) → a < 2 ^ 64 → bitAnd a b / 2 * 2 ≡ meet a b
+unfolding meet
+meet-and a b h =
+    ext 64 (bitAnd a b / 2 * 2) (meet a b) (let l : bitAnd a b ≤ a = and-le-l a b in omega arith) (mask-lt (λ (p : ℕ). member a p && member b p) 63) same
+  where
+    same : (p : ℕ) → p < 64 → member (bitAnd a b / 2 * 2) p ≡ member (maskOf (λ (q : ℕ). member a q && member b q) 63) p
+    same zero l = even-zero (bitAnd a b) ∙ sym (mask-zero (λ (q : ℕ). member a q && member b q) 63)
+    same (suc p) l =
+        even-other (bitAnd a b) p ∙ member-and a b (suc p) ∙ sym (mask-member (λ (q : ℕ). member a q && member b q) 63 (suc p) (omega arith) (omega arith))

@@ -2,7 +2,7 @@
 ghost use mathlib.Core.Path.{_≡_};
 ghost use Prim.Native.Nat.{_+_, _-_, _^_, _<_};
 ghost use mathlib.Core.Bool.{true, false};
-ghost use Rattle.systems.specs.Set.{member, count};
+ghost use Rattle.systems.specs.Set.{member, count, meet};
 
 // The set that holds p alone.
 pub fn bit(p: u8) -> u64
@@ -43,4 +43,11 @@ pub fn size(s: u64) -> u32
     ensures { λ r. ⌜ r ≡ count s 63 ⌝ }
 {
     u64::count_ones(s / 2)
+}
+
+// Those providers that are in both sets, for any two: the common ones above place 0.
+pub fn meet(a: u64, b: u64) -> u64
+    ensures { λ r. ⌜ r ≡ meet a b ⌝ }
+{
+    (a & b) / 2 * 2
 }
