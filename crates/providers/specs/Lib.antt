@@ -1,0 +1,3 @@
+pub mod Providers
+pub mod Growth
+pub mod Laws
