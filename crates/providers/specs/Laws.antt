@@ -22,11 +22,8 @@ use Rattle.model.specs.declared.Provider.{Provider}
 use Rattle.model.specs.declared.Marks.{Marks}
 use Rattle.providers.specs.declared.Listed.{Listed}
 use Rattle.providers.specs.Providers.{absent, fine, soundList, presentAt, localAt, marksOf, nobody, unsound, listed, entryOf}
+use Rattle.providers.specs.MarksLaws.{both-true, every-of}
 use Rattle.providers.specs.Growth.{markOf, addsTo, grownBy, listedTo}
-
-both : (a b : Bool) → (a && b) ≡ true → (a ≡ true) × (b ≡ true)
-both true b e = (refl, e)
-both false b e = absurd (let z : _≡_ {A = ℕ} 0 1 = cc in omega arith)
 
 -- ---- a step of the readers
 
@@ -175,15 +172,10 @@ mask-even f (suc n) = go (f (suc n)) (mask-even f n)
     go true h = omega (arith, pow-suc 2 n)
     go false h = omega arith
 
-every-of : (f : ℕ → Bool) (n : ℕ) → ((p : ℕ) → 0 < p → p ≤ n → f p ≡ true) → every f n ≡ true
-unfolding every
-every-of f zero h = refl
-every-of f (suc n) h = ap₂ (λ (a b : Bool). a && b) (every-of f n (λ p k l. h p k (omega arith))) (h (suc n) (omega arith) (omega arith))
-
 all-at : (l : List Provider) → all fine l ≡ true → (i : ℕ) → fine (getD l i absent) ≡ true
 all-at [] e i = refl
-all-at (x ∷ xs) e zero = both (fine x) (all fine xs) e .0
-all-at (x ∷ xs) e (suc i) = all-at xs (both (fine x) (all fine xs) e .1) i
+all-at (x ∷ xs) e zero = both-true (fine x) (all fine xs) e .0
+all-at (x ∷ xs) e (suc i) = all-at xs (both-true (fine x) (all fine xs) e .1) i
 
 nobody-sound : soundMarks nobody ≡ true
 unfolding soundMarks every member

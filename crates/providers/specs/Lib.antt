@@ -1,3 +1,4 @@
 pub mod Providers
 pub mod Growth
+pub mod MarksLaws
 pub mod Laws

@@ -2,6 +2,7 @@
 ghost use mathlib.Core.Path.{_≡_};
 ghost use mathlib.Core.List.{map};
 ghost use Prim.Native.Nat.{_<_};
+ghost use Rattle.model.specs.Books.{soundMarks};
 ghost use Rattle.providers.specs.Providers.{listed, entryOf};
 ghost use Rattle.providers.specs.Growth.{markOf, addsTo, grownBy};
 use model::Marks;
@@ -99,4 +100,14 @@ pub fn marks_of_bytes(bytes: &[u8]) -> Listed
         i += 1;
     }
     l
+}
+
+// Whether the marks are sound: neither set has place 0, and the second lies within the first. For any two numbers.
+pub fn sound(marks: Marks) -> bool
+    ensures { λ r. ⌜ r ≡ soundMarks marks ⌝ }
+{
+    let present = marks.present;
+    let local = marks.local;
+    let shared = local & present;
+    (present % 2 == 0) & (local % 2 == 0) & (shared == local)
 }
