@@ -1,0 +1,4 @@
+pub mod Packed
+pub mod Places
+pub mod Scan
+pub mod Sound
