@@ -2,3 +2,5 @@ pub mod Packed
 pub mod Places
 pub mod Scan
 pub mod Sound
+pub mod Search
+pub mod Given

@@ -189,3 +189,51 @@ pub fn sound(marks: Marks, books: &[u8]) -> bool
     }
     sound_splits(books)
 }
+
+// Whether the provider is present.
+pub fn present(marks: Marks, provider: u8) -> bool
+    ensures { λ r. ⌜ r ≡ member (marks .present) provider ⌝ }
+{
+    systems::has(marks.present, provider)
+}
+
+// The owner of a code, or 0 where it is not listed.
+pub fn owner(books: &[u8], code: u64) -> u8
+    requires { ⌜ length (now books) ≡ bookBytes ⌝ }
+    ensures { λ r. ⌜ ((m : Marks) → r ≡ ownerOf (decodeBooks m (now (books .entry))) code) ⌝ }
+{
+    let mut i: usize = 0;
+    while i < CODE_PLACES {
+        let w = octets::u32_at(books, CODES_AT + 4 * i);
+        if w == 0 {
+            return 0;
+        }
+        if w / 64 == code {
+            return (w % 64) as u8;
+        }
+        i += 1;
+    }
+    0
+}
+
+// The other code of the pair that a code stands in, or 0: the search stops at the first row that decides. [D6]
+pub fn partner(books: &[u8], code: u64) -> u64
+    requires { ⌜ length (now books) ≡ bookBytes ⌝ }
+    ensures { λ r. ⌜ ((m : Marks) → r ≡ partnerOf (decodeBooks m (now (books .entry))) code) ⌝ }
+{
+    let mut i: usize = 0;
+    while i < SPLIT_PLACES {
+        let w = octets::u64_at(books, SPLITS_AT + 8 * i);
+        if w == 0 {
+            return 0;
+        }
+        if w / 4294967296 == code {
+            return w % 4294967296;
+        }
+        if w % 4294967296 == code {
+            return w / 4294967296;
+        }
+        i += 1;
+    }
+    0
+}
