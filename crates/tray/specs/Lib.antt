@@ -1,0 +1,3 @@
+pub mod Tray
+pub mod Laws
+pub mod Downloads
