@@ -53,6 +53,17 @@ message-put t t₁ t₂ t₃ place head tail m h hh ht e₁ e₂ e₃ =
     e₃ ∙ ap (λ (l : List ℕ). put 8 l (24 * place + 16) (m .failed)) (e₂ ∙ ap₂ (λ (l : List ℕ) (v : ℕ). put 8 l (24 * place + 8) v) (e₁ ∙ ap (put 8 t (24 * place)) hh) ht)
     ∙ words-put t (24 * place) (headOf m) (tailOf m) (m .failed) (omega arith)
 
+pub length-message : (m : Message) → length (messageBytes m) ≡ 24
+unfolding messageBytes
+length-message m = simp (length-append, length-digits)
+
+-- a put leaves the tray's length
+pub put-length : (t : List ℕ) (place : ℕ) (m : Message) → place < placesIn t → length (putMessage t place m) ≡ length t
+unfolding putMessage
+put-length t place m h =
+    let e : length (take (24 * place) t) ≡ 24 * place = length-take-le (24 * place) t (omega arith) in
+    simp (length-append, length-drop, e, length-message) (omega arith)
+
 -- ---- both ways
 
 -- all fields fit, those too that the message's own types bound
@@ -76,10 +87,6 @@ words-message m s n =
     flag : (b : Bool) → eqb (cond b 1 0) 1 ≡ b
     flag true = refl
     flag false = refl
-
-pub length-message : (m : Message) → length (messageBytes m) ≡ 24
-unfolding messageBytes
-length-message m = simp (length-append, length-digits)
 
 -- three words side by side read as themselves
 record Three (xs : List ℕ) (at a b c : ℕ) : Type 0 where

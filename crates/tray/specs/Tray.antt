@@ -1,12 +1,15 @@
 -- Messages as bytes (docs/LAYOUTS.md), and the tray. [Y1, Y8]
 -- Assumes nothing.
 use Prim.Native.Nat.{ℕ, zero, suc, _+_, _*_, _/_, _^_, _<_, _≤_}
+use mathlib.Core.Path.{_≡_}
 use mathlib.Core.Bool.{Bool, true, cond}
 use mathlib.Core.List.{List, [], _∷_, _++_, map}
 use lib.Dec.{eqb}
 use lib.ListN.{length, getD, take, drop}
 use Rattle.octets.specs.Octets.{be, digits}
 use Rattle.octets.specs.Fields.{cut, join}
+use Rattle.systems.specs.Set.{count}
+use Rattle.model.specs.Tray.{members}
 use Rattle.model.specs.declared.Message.{Message}
 
 -- ---- a message: three words
@@ -111,3 +114,8 @@ toLocal m p = record {
 -- one for each of these providers
 abbrev pub toLocals : Message → List ℕ → List Message
 toLocals m ps = map (toLocal m) ps
+
+-- what putting downloads leaves and says: rising provider [Y5]
+pub record Sent (t after : List ℕ) (place : ℕ) (m : Message) (set r : ℕ) : Type 0 where
+  pub tray : after ≡ putAll t place (toLocals m (members set))
+  pub said : r ≡ count set 63

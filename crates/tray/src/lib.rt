@@ -4,8 +4,7 @@ ghost use mathlib.Core.Bool.{cond};
 ghost use Prim.Native.Nat.{_+_, _*_, _<_, _≤_};
 ghost use lib.ListN.{length};
 ghost use Rattle.systems.specs.Set.{count};
-ghost use Rattle.model.specs.Tray.{members};
-ghost use Rattle.tray.specs.Tray.{Small, headOf, tailOf, messageOf, messageFrom, placesIn, putMessage, putAll, toLocal, toLocals};
+ghost use Rattle.tray.specs.Tray.{Small, headOf, tailOf, messageOf, messageFrom, placesIn, putMessage, toLocal, Sent};
 use model::Id;
 use model::Lrn;
 use model::Message;
@@ -92,4 +91,39 @@ pub fn put_message(tray: &mut [u8], place: usize, m: Message)
     octets::put_u64(tray, at, head);
     octets::put_u64(tray, at + 8, tail);
     octets::put_u64(tray, at + 16, m.failed);
+}
+
+// The same message to a provider's Local SMS.
+fn to_local(m: Message, provider: u8) -> Message
+    ensures { λ r. ⌜ r ≡ toLocal m provider ⌝ }
+{
+    let id = m.id;
+    let lrn = m.lrn;
+    Message {
+        local: true,
+        provider,
+        sort: m.sort,
+        id,
+        status: m.status,
+        failed: m.failed,
+        lrn,
+    }
+}
+
+// One message for each provider of the set, rising, from a place on; how many were put. [Y5]
+pub fn put_downloads(tray: &mut [u8], from: usize, m: Message, set: u64) -> usize
+    requires { ⌜ (from + count set 63 ≤ placesIn (now tray)) × Small m ⌝ }
+    ensures { λ r. ⌜ Sent (now (tray .entry)) (now (tray .exit)) from m set r ⌝ }
+{
+    let mut at = from;
+    let mut provider: u8 = 0;
+    'providers: while provider < 63 {
+        provider += 1;
+        if !systems::has(set, provider) {
+            continue 'providers;
+        }
+        put_message(tray, at, to_local(m, provider));
+        at += 1;
+    }
+    at - from
 }
