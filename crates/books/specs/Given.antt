@@ -2,7 +2,7 @@
 -- Assumes nothing.
 use Prim.Native.Nat.{ℕ}
 use mathlib.Core.Path.{_≡_, sym, _∙_}
-use mathlib.Core.Bool.{Bool, true, false, _&&_}
+use mathlib.Core.Bool.{true, false, _&&_}
 use mathlib.Core.List.{List}
 use borrow.Author.Tests.{eqb-true}
 use lib.Dec.{eqb}
@@ -10,7 +10,7 @@ use lib.ListN.{length}
 use Rattle.octets.specs.Fields.{and-l, and-r}
 use Rattle.model.specs.Books.{soundMarks, soundCodes, soundFilters, soundSplits, soundBooks}
 use Rattle.model.specs.declared.Marks.{Marks}
-use Rattle.books.specs.Packed.{bookBytes, codePlaces, filterPlaces, splitPlaces, headOf, codePlace, filterPlace, splitPlace, codesOf, filtersOf, splitsOf, packedFrom, decodeBooks, soundBytes}
+use Rattle.books.specs.Packed.{bookBytes, rowPlaces, splitPlaces, headOf, codePlace, filterPlace, splitPlace, codesOf, filtersOf, splitsOf, packedFrom, decodeBooks, soundBytes}
 use Rattle.books.specs.Scan.{scan}
 use Rattle.books.specs.Sound.{rowTest, splitTest, sound-parts}
 
@@ -20,7 +20,7 @@ module _ (m : Marks) (bs : List ℕ) (e : soundBytes m bs ≡ true) where
   sound-length =
       eqb-true (length bs) bookBytes
       (and-l (eqb (length bs) bookBytes)
-      (eqb (headOf bs) 0 && (soundMarks m && (scan (rowTest false m) (codePlace bs) codePlaces 0 0 && (scan (rowTest true m) (filterPlace bs) filterPlaces 0 0 && scan splitTest (splitPlace bs) splitPlaces 0 0))))
+      (eqb (headOf bs) 0 && (soundMarks m && (scan (rowTest false m) (codePlace bs) rowPlaces 0 0 && (scan (rowTest true m) (filterPlace bs) rowPlaces 0 0 && scan splitTest (splitPlace bs) splitPlaces 0 0))))
       (sym (sound-parts m bs) ∙ e))
 
   -- they are sound books
@@ -28,7 +28,7 @@ module _ (m : Marks) (bs : List ℕ) (e : soundBytes m bs ≡ true) where
   unfolding soundBytes
   sound-books =
       and-r
-      (eqb (length bs) bookBytes && eqb (headOf bs) 0 && packedFrom (codePlace bs) codePlaces 0 && packedFrom (filterPlace bs) filterPlaces 0 && packedFrom (splitPlace bs) splitPlaces 0)
+      (eqb (length bs) bookBytes && eqb (headOf bs) 0 && packedFrom (codePlace bs) rowPlaces 0 && packedFrom (filterPlace bs) rowPlaces 0 && packedFrom (splitPlace bs) splitPlaces 0)
       (soundBooks (decodeBooks m bs)) e
 
   pub sound-marks : soundMarks m ≡ true

@@ -4,3 +4,4 @@ pub mod Scan
 pub mod Sound
 pub mod Search
 pub mod Given
+pub mod Worked

@@ -14,17 +14,15 @@ use Rattle.model.specs.declared.Marks.{Marks}
 abbrev pub bookBytes : ℕ
 bookBytes = 8712
 
+-- codes, and filters: as many places each
+abbrev pub rowPlaces : ℕ
+rowPlaces = 1024
+
 abbrev pub codesAt : ℕ
 codesAt = 8
 
-abbrev pub codePlaces : ℕ
-codePlaces = 1024
-
 abbrev pub filtersAt : ℕ
 filtersAt = 4104
-
-abbrev pub filterPlaces : ℕ
-filterPlaces = 1024
 
 abbrev pub splitsAt : ℕ
 splitsAt = 8200
@@ -83,10 +81,10 @@ packedFrom w (suc m) i = cond (eqb (w i) 0) (freeFrom w m (suc i)) (packedFrom w
 -- ---- the books
 
 abbrev pub codesOf : List ℕ → List Owned
-codesOf bs = map ownedOf (usedFrom (codePlace bs) codePlaces 0)
+codesOf bs = map ownedOf (usedFrom (codePlace bs) rowPlaces 0)
 
 abbrev pub filtersOf : List ℕ → List Filter
-filtersOf bs = map filterOf (usedFrom (filterPlace bs) filterPlaces 0)
+filtersOf bs = map filterOf (usedFrom (filterPlace bs) rowPlaces 0)
 
 abbrev pub splitsOf : List ℕ → List Split
 splitsOf bs = map splitOf (usedFrom (splitPlace bs) splitPlaces 0)
@@ -98,5 +96,5 @@ decodeBooks m bs = record { marks = m; codes = codesOf bs; filters = filtersOf b
 unfoldable pub soundBytes : Marks → List ℕ → Bool
 soundBytes m bs =
     eqb (length bs) bookBytes && eqb (headOf bs) 0
-    && packedFrom (codePlace bs) codePlaces 0 && packedFrom (filterPlace bs) filterPlaces 0 && packedFrom (splitPlace bs) splitPlaces 0
+    && packedFrom (codePlace bs) rowPlaces 0 && packedFrom (filterPlace bs) rowPlaces 0 && packedFrom (splitPlace bs) splitPlaces 0
     && soundBooks (decodeBooks m bs)

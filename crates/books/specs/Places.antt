@@ -3,7 +3,7 @@
 use Prim.Native.Nat.{ℕ, zero, suc, _+_, _-_, _*_, _^_, _≤_, _<_, zero-le}
 use mathlib.Core.Path.{_≡_, refl, sym, ap, ap₂, _∙_}
 use mathlib.Core.Bool.{Bool, true, false, cond, _&&_, and-assoc}
-use mathlib.Core.List.{List, [], _∷_, map}
+use mathlib.Core.List.{List, [], _∷_}
 use native.Mathlib.Numerals.{add-one}
 use native.Mathlib.Omega.{arith}
 use borrow.Author.Tests.{eq-eqb, ne-eqb, eqb-true, eqb-false}
@@ -11,7 +11,7 @@ use lib.Dec.{eqb}
 use lib.ListN.{length}
 use Rattle.octets.specs.Octets.{be}
 use Rattle.octets.specs.Laws.{be-add}
-use Rattle.books.specs.Packed.{placeOf, usedFrom, freeFrom, packedFrom}
+use Rattle.books.specs.Packed.{placeOf, usedFrom, freeFrom}
 
 -- the used places from place i on, of n in all
 abbrev pub restOf : (ℕ → ℕ) → ℕ → ℕ → List ℕ

@@ -1,11 +1,11 @@
 -- Sound books, place by place: what the pass over each list tests, and that this is soundness.
 -- Assumes nothing.
-use Prim.Native.Nat.{ℕ, zero, suc, _+_, _-_, _*_, _/_, _%_, _^_, _≤_, _<_}
+use Prim.Native.Nat.{ℕ, _+_, _-_, _*_, _/_, _%_, _^_, _≤_, _<_}
 use mathlib.Core.Path.{_≡_, refl, sym, ap, ap₂, _∙_}
 use mathlib.Core.Bool.{Bool, true, false, cond, not, _&&_, _||_, and-assoc, and-false}
 use mathlib.Core.List.{List, [], _∷_, map}
 use native.Mathlib.Omega.{arith}
-use borrow.Author.Tests.{lt-ltb, le-ltb, le-leb, lt-leb, ltb-true, ltb-false, eqb-true, eqb-false, eq-eqb, ne-eqb}
+use borrow.Author.Tests.{lt-ltb, le-ltb, le-leb, lt-leb, ltb-true, ltb-false, eqb-true, eqb-false}
 use lib.Dec.{eqb, ltb, leb}
 use lib.ListN.{length, length-map}
 use Rattle.systems.specs.Set.{member}
@@ -13,7 +13,7 @@ use Rattle.model.specs.Basics.{all}
 use Rattle.model.specs.Numbers.{isCode, isProvider}
 use Rattle.model.specs.Books.{Owned, Filter, Split, soundMarks, codesAbove, soundCodes, filtersAbove, soundFilters, unsplit, splitOnce, soundSplits, soundBooks}
 use Rattle.model.specs.declared.Marks.{Marks}
-use Rattle.books.specs.Packed.{bookBytes, codePlaces, filterPlaces, splitsAt, splitPlaces, placeOf, headOf, codePlace, filterPlace, splitPlace, ownedOf, filterOf, splitOf, usedFrom, freeFrom, packedFrom, soundBytes}
+use Rattle.books.specs.Packed.{bookBytes, rowPlaces, splitsAt, splitPlaces, placeOf, headOf, codePlace, filterPlace, splitPlace, ownedOf, filterOf, splitOf, usedFrom, freeFrom, packedFrom, soundBytes}
 use Rattle.books.specs.Places.{restOf, used-more, used-length, free-pairs}
 use Rattle.books.specs.Scan.{Test, chain, scan, scan-is, scan-free, scan-next, scan-forgets}
 
@@ -95,13 +95,13 @@ splits-chain last (x ∷ xs) =
 short : {A : Type 0} (f : ℕ → A) (w : ℕ → ℕ) (m : ℕ) → leb (length (map f (usedFrom w m 0))) m ≡ true
 short f w m = le-leb _ m (omega (arith, length-map (usedFrom w m 0) f, used-length w m 0))
 
-codes-sound : (m : Marks) (w : ℕ → ℕ) → scan (rowTest false m) w codePlaces 0 0 ≡ (packedFrom w codePlaces 0 && soundCodes m (map ownedOf (usedFrom w codePlaces 0)))
+codes-sound : (m : Marks) (w : ℕ → ℕ) → scan (rowTest false m) w rowPlaces 0 0 ≡ (packedFrom w rowPlaces 0 && soundCodes m (map ownedOf (usedFrom w rowPlaces 0)))
 unfolding soundCodes
-codes-sound m w = scan-is (rowTest false m) w codePlaces 0 0 ∙ ap (λ (b : Bool). packedFrom w codePlaces 0 && b) (sym (rw (short ownedOf w codePlaces) (codes-chain m 0 (usedFrom w codePlaces 0))))
+codes-sound m w = scan-is (rowTest false m) w rowPlaces 0 0 ∙ ap (λ (b : Bool). packedFrom w rowPlaces 0 && b) (sym (rw (short ownedOf w rowPlaces) (codes-chain m 0 (usedFrom w rowPlaces 0))))
 
-filters-sound : (m : Marks) (w : ℕ → ℕ) → scan (rowTest true m) w filterPlaces 0 0 ≡ (packedFrom w filterPlaces 0 && soundFilters m (map filterOf (usedFrom w filterPlaces 0)))
+filters-sound : (m : Marks) (w : ℕ → ℕ) → scan (rowTest true m) w rowPlaces 0 0 ≡ (packedFrom w rowPlaces 0 && soundFilters m (map filterOf (usedFrom w rowPlaces 0)))
 unfolding soundFilters
-filters-sound m w = scan-is (rowTest true m) w filterPlaces 0 0 ∙ ap (λ (b : Bool). packedFrom w filterPlaces 0 && b) (sym (rw (short filterOf w filterPlaces) (filters-chain m 0 (usedFrom w filterPlaces 0))))
+filters-sound m w = scan-is (rowTest true m) w rowPlaces 0 0 ∙ ap (λ (b : Bool). packedFrom w rowPlaces 0 && b) (sym (rw (short filterOf w rowPlaces) (filters-chain m 0 (usedFrom w rowPlaces 0))))
 
 splits-sound : (w : ℕ → ℕ) → scan splitTest w splitPlaces 0 0 ≡ (packedFrom w splitPlaces 0 && soundSplits (map splitOf (usedFrom w splitPlaces 0)))
 unfolding soundSplits
@@ -110,10 +110,10 @@ splits-sound w = scan-is splitTest w splitPlaces 0 0 ∙ ap (λ (b : Bool). pack
 -- SOUND BYTES, in the order in which they are tested
 pub sound-parts : (m : Marks) (bs : List ℕ)
     → soundBytes m bs
-    ≡ (eqb (length bs) bookBytes && (eqb (headOf bs) 0 && (soundMarks m && (scan (rowTest false m) (codePlace bs) codePlaces 0 0 && (scan (rowTest true m) (filterPlace bs) filterPlaces 0 0 && scan splitTest (splitPlace bs) splitPlaces 0 0)))))
+    ≡ (eqb (length bs) bookBytes && (eqb (headOf bs) 0 && (soundMarks m && (scan (rowTest false m) (codePlace bs) rowPlaces 0 0 && (scan (rowTest true m) (filterPlace bs) rowPlaces 0 0 && scan splitTest (splitPlace bs) splitPlaces 0 0)))))
 unfolding soundBytes soundBooks
 sound-parts m bs = rw (codes-sound m (codePlace bs), filters-sound m (filterPlace bs), splits-sound (splitPlace bs))
-    (parts (eqb (length bs) bookBytes) (eqb (headOf bs) 0) (packedFrom (codePlace bs) codePlaces 0) (packedFrom (filterPlace bs) filterPlaces 0) (packedFrom (splitPlace bs) splitPlaces 0) (soundMarks m) _ _ _)
+    (parts (eqb (length bs) bookBytes) (eqb (headOf bs) 0) (packedFrom (codePlace bs) rowPlaces 0) (packedFrom (filterPlace bs) rowPlaces 0) (packedFrom (splitPlace bs) splitPlaces 0) (soundMarks m) _ _ _)
   where
     parts : (l h c f s m x y z : Bool) → (l && h && c && f && s && (m && x && y && z)) ≡ (l && (h && (m && ((c && x) && ((f && y) && (s && z))))))
     parts false h c f s m x y z = refl

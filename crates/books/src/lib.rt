@@ -1,30 +1,26 @@
 // The books as bytes: sound or not, and what they say of codes, pairs and filters. They are only read. [B2, B3, B4, B6]
 ghost use mathlib.Core.Path.{_≡_};
-ghost use mathlib.Core.Bool.{true, _&&_, _||_};
-ghost use mathlib.Core.List.{List};
-ghost use Prim.Native.Nat.{ℕ, _+_, _-_, _*_, _/_, _%_, _^_, _≤_, _<_};
-ghost use lib.Dec.{eqb, ltb};
+ghost use mathlib.Core.Bool.{_||_};
+ghost use Prim.Native.Nat.{_+_, _-_, _*_, _/_, _%_, _^_, _≤_};
+ghost use lib.Dec.{eqb};
 ghost use lib.ListN.{length};
-ghost use Rattle.systems.specs.Set.{member, maskOf};
+ghost use Rattle.systems.specs.Set.{member};
 ghost use Rattle.model.specs.declared.Marks.{Marks};
 ghost use Rattle.model.specs.Numbers.{isCode};
 ghost use Rattle.model.specs.Books.{ownerOf, partnerOf};
-ghost use Rattle.model.specs.Selection.{selects};
-ghost use Rattle.books.specs.Packed.{bookBytes, codePlaces, filterPlaces, splitPlaces, placeOf, codePlace, filterPlace, splitPlace, freeFrom, decodeBooks, soundBytes};
+ghost use Rattle.books.specs.Packed.{bookBytes, rowPlaces, splitPlaces, placeOf, splitPlace, freeFrom, decodeBooks, soundBytes};
 ghost use Rattle.books.specs.Places.{restOf};
 ghost use Rattle.books.specs.Scan.{scan};
 ghost use Rattle.books.specs.Sound.{goodCode, goodFilter, goodRow, rowTest, apartFrom, goodSplit, splitTest};
 use model::Marks;
 
-const BOOK_BYTES: usize = 8712;
+pub const BOOK_BYTES: usize = 8712;
+// Codes, and filters: as many places each.
+pub const ROW_PLACES: usize = 1024;
 
 const CODES_AT: usize = 8;
 
-const CODE_PLACES: usize = 1024;
-
-const FILTERS_AT: usize = 4104;
-
-const FILTER_PLACES: usize = 1024;
+pub const FILTERS_AT: usize = 4104;
 
 const SPLITS_AT: usize = 8200;
 
@@ -130,15 +126,15 @@ fn good_row(filters: bool, marks: Marks, last: u64, w: u64) -> bool
 
 // One pass over the filters or the codes: places of four bytes from at.
 fn sound_rows(filters: bool, marks: Marks, books: &[u8], at: usize) -> bool
-    requires { ⌜ at + 4 * codePlaces ≤ length (now books) ⌝ }
-    ensures { λ r. ⌜ r ≡ scan (rowTest filters marks) (placeOf 4 at (now (books .entry))) codePlaces 0 0 ⌝ }
+    requires { ⌜ at + 4 * rowPlaces ≤ length (now books) ⌝ }
+    ensures { λ r. ⌜ r ≡ scan (rowTest filters marks) (placeOf 4 at (now (books .entry))) rowPlaces 0 0 ⌝ }
 {
     let mut last: u64 = 0;
     let mut i: usize = 0;
-    while i < CODE_PLACES {
+    while i < ROW_PLACES {
         let w = octets::u32_at(books, at + 4 * i);
         if w == 0 {
-            return free(books, at, CODE_PLACES, i + 1);
+            return free(books, at, ROW_PLACES, i + 1);
         }
         if !good_row(filters, marks, last, w) {
             return false;
@@ -203,7 +199,7 @@ pub fn owner(books: &[u8], code: u64) -> u8
     ensures { λ r. ⌜ ((m : Marks) → r ≡ ownerOf (decodeBooks m (now (books .entry))) code) ⌝ }
 {
     let mut i: usize = 0;
-    while i < CODE_PLACES {
+    while i < ROW_PLACES {
         let w = octets::u32_at(books, CODES_AT + 4 * i);
         if w == 0 {
             return 0;

@@ -1,6 +1,6 @@
 -- Laws of the provider list: read record by record it says what it says as a whole, and a sound list has sound marks.
 -- Assumes nothing.
-use Prim.Native.Nat.{ℕ, zero, suc, _+_, _-_, _*_, _%_, _^_, _≤_, _<_}
+use Prim.Native.Nat.{ℕ, zero, suc, _+_, _-_, _%_, _^_, _≤_, _<_}
 use mathlib.Core.Path.{_≡_, refl, sym, ap, ap₂, _∙_}
 use mathlib.Core.Bool.{Bool, true, false, cond, not, _&&_, _||_, and-assoc}
 use mathlib.Core.List.{List, [], _∷_, _++_, map}
@@ -8,9 +8,9 @@ use native.Mathlib.Nat.{one-mul, add-comm, add-zero, pow-suc, le-refl}
 use native.Mathlib.Decide.{le-ind}
 use native.Mathlib.Numerals.{add-one}
 use native.Mathlib.Omega.{arith}
-use borrow.Author.Tests.{lt-ltb, le-leb, lt-leb, leb-true, leb-false, ltb-true, ltb-false, eq-eqb}
+use borrow.Author.Tests.{lt-ltb, le-leb, lt-leb, leb-true, ltb-true, ltb-false, eq-eqb}
 use lib.Bits.{bitOr, or-shifted-r}
-use lib.Dec.{ltb, leb, eqb}
+use lib.Dec.{ltb, leb}
 use lib.ListN.{length, getD, take, List·getD-map, List·getD-eq-default}
 use lib.Seq.{take-suc, take-length}
 use Rattle.systems.specs.Set.{member, maskOf}
@@ -19,9 +19,8 @@ use Rattle.model.specs.Basics.{all, every, implies}
 use Rattle.model.specs.Books.{soundMarks}
 use Rattle.model.specs.Numbers.{isSet}
 use Rattle.model.specs.declared.Provider.{Provider}
-use Rattle.model.specs.declared.Marks.{Marks}
 use Rattle.providers.specs.declared.Listed.{Listed}
-use Rattle.providers.specs.Providers.{absent, fine, soundList, presentAt, localAt, marksOf, nobody, unsound, listed, entryOf}
+use Rattle.providers.specs.Providers.{absent, fine, presentAt, localAt, marksOf, nobody, unsound, listed, entryOf}
 use Rattle.providers.specs.MarksLaws.{both-true, every-of}
 use Rattle.providers.specs.Growth.{markOf, addsTo, grownBy, listedTo}
 

@@ -7,7 +7,7 @@ use native.Mathlib.Nat.{mod-lt, div-one, min-le-left, lt-of-le-of-lt}
 use native.Mathlib.Omega.{arith}
 use borrow.Author.Tests.{lt-ltb, eq-eqb, ne-eqb, eqb-true, eqb-false}
 use lib.Bits.{bitAnd, and-shr, and-step, and-le-l}
-use lib.Dec.{eqb, ltb, lit<}
+use lib.Dec.{eqb, lit<}
 use Rattle.systems.specs.Set.{member}
 use Rattle.systems.specs.Laws.{ext}
 use Rattle.model.specs.Basics.{every, implies}

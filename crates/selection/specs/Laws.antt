@@ -1,6 +1,6 @@
 -- Laws of the search through providers and filters, one for each way through it.
 -- Assumes nothing.
-use Prim.Native.Nat.{ℕ, zero, suc, _+_, _-_, _/_, _%_, _^_, _≤_, _<_}
+use Prim.Native.Nat.{ℕ, suc, _+_, _-_, _/_, _%_, _^_, _≤_, _<_}
 use mathlib.Core.Path.{_≡_, refl, sym, ap, ap₂, _∙_}
 use mathlib.Core.Bool.{Bool, true, false, cond, not, _&&_, _||_, or-assoc, or-false}
 use mathlib.Core.List.{List, [], _∷_, map}
@@ -16,12 +16,12 @@ use Rattle.systems.specs.Set.{member, maskOf}
 use Rattle.systems.specs.Laws.{mask-lt}
 use Rattle.model.specs.Basics.{all}
 use Rattle.model.specs.Numbers.{isCode, isProvider}
-use Rattle.model.specs.Books.{Filter, Books, present, partnerOf, filters, filtersIn, filtersAbove, soundFilters, soundMarks}
-use Rattle.model.specs.Selection.{skipped, classOf, isSelected, selects, Class, selected, filterOnly, filtersBoth, noLocal, notPresent}
+use Rattle.model.specs.Books.{Filter, present, partnerOf, filters, filtersIn, filtersAbove, soundFilters}
+use Rattle.model.specs.Selection.{skipped, classOf, isSelected, selects, selected, filterOnly, filtersBoth, noLocal, notPresent}
 use Rattle.model.specs.declared.Marks.{Marks}
 use Rattle.providers.specs.MarksLaws.{runs-present}
-use Rattle.books.specs.Packed.{filterPlace, filterPlaces, filterOf, filtersOf, decodeBooks, soundBytes}
-use Rattle.books.specs.Places.{restOf, used-none, used-more, used-end}
+use Rattle.books.specs.Packed.{filterPlace, rowPlaces, filterOf, filtersOf, decodeBooks, soundBytes}
+use Rattle.books.specs.Places.{used-none, used-more, used-end}
 use Rattle.books.specs.Given.{sound-filters, sound-marks}
 use Rattle.selection.specs.Rows.{filtersFrom, Left}
 
@@ -84,9 +84,9 @@ not-past x p r hr f = go (eqb x 0) refl (sym hr ∙ f)
     go true e h = absurd (no (sym h))
     go false e h = (eqb-false x 0 e, ltb-false p (x / 2 ^ 20) h)
 
-module _ (bs : List ℕ) (p i x : ℕ) (r : Bool) (h : i < filterPlaces) (hx : x ≡ filterPlace bs i) (hr : r ≡ (eqb x 0 || ltb p (x / 2 ^ 20))) (f : r ≡ false) where
+module _ (bs : List ℕ) (p i x : ℕ) (r : Bool) (h : i < rowPlaces) (hx : x ≡ filterPlace bs i) (hr : r ≡ (eqb x 0 || ltb p (x / 2 ^ 20))) (f : r ≡ false) where
   row-is : filtersFrom bs i ≡ filterOf x ∷ filtersFrom bs (i + 1)
-  row-is = ap (map filterOf) (used-more (filterPlace bs) filterPlaces i x h hx (not-past x p r hr f .0))
+  row-is = ap (map filterOf) (used-more (filterPlace bs) rowPlaces i x h hx (not-past x p r hr f .0))
 
   -- the next place
   pub left-row : Left bs p i → Left bs p (i + 1)
@@ -109,19 +109,19 @@ module _ (bs : List ℕ) (p i x : ℕ) (r : Bool) (h : i < filterPlaces) (hx : x
       ∙ ap (λ (b : Bool). b || filtersIn p c (filtersFrom bs (i + 1))) (sym hs)
 
 -- behind the last place p has no filters
-pub left-end : (bs : List ℕ) (p i c : ℕ) → filterPlaces ≤ i → filtersIn p c (filtersFrom bs i) ≡ false
-left-end bs p i c h = ap (λ (xs : List ℕ). filtersIn p c (map filterOf xs)) (used-end (filterPlace bs) filterPlaces i h)
+pub left-end : (bs : List ℕ) (p i c : ℕ) → rowPlaces ≤ i → filtersIn p c (filtersFrom bs i) ≡ false
+left-end bs p i c h = ap (λ (xs : List ℕ). filtersIn p c (map filterOf xs)) (used-end (filterPlace bs) rowPlaces i h)
 
 -- nor from a place on that is past p
-pub left-past : (bs : List ℕ) (p i x c : ℕ) (r : Bool) → i < filterPlaces → x ≡ filterPlace bs i → r ≡ (eqb x 0 || ltb p (x / 2 ^ 20)) → r ≡ true → Left bs p i
+pub left-past : (bs : List ℕ) (p i x c : ℕ) (r : Bool) → i < rowPlaces → x ≡ filterPlace bs i → r ≡ (eqb x 0 || ltb p (x / 2 ^ 20)) → r ≡ true → Left bs p i
     → filtersIn p c (filtersFrom bs i) ≡ false
 left-past bs p i x c r h hx hr t l = go (eqb x 0) refl (sym hr ∙ t)
   where
     go : (b : Bool) → eqb x 0 ≡ b → (b || ltb p (x / 2 ^ 20)) ≡ true → filtersIn p c (filtersFrom bs i) ≡ false
-    go true e k = ap (λ (xs : List ℕ). filtersIn p c (map filterOf xs)) (used-none (filterPlace bs) filterPlaces i x hx (eqb-true x 0 e))
+    go true e k = ap (λ (xs : List ℕ). filtersIn p c (map filterOf xs)) (used-none (filterPlace bs) rowPlaces i x hx (eqb-true x 0 e))
     go false e k =
         let n : p < x / 2 ^ 20 = ltb-true p (x / 2 ^ 20) k in
-        let is : filtersFrom bs i ≡ filterOf x ∷ filtersFrom bs (i + 1) = ap (map filterOf) (used-more (filterPlace bs) filterPlaces i x h hx (eqb-false x 0 e)) in
+        let is : filtersFrom bs i ≡ filterOf x ∷ filtersFrom bs (i + 1) = ap (map filterOf) (used-more (filterPlace bs) rowPlaces i x h hx (eqb-false x 0 e)) in
         let up : filtersAbove (x / 2 ^ 20) (x % 2 ^ 20) (filtersFrom bs (i + 1)) ≡ true
         = and-r (ltb 0 (x / 2 ^ 20) || (eqb 0 (x / 2 ^ 20) && ltb 0 (x % 2 ^ 20))) (filtersAbove (x / 2 ^ 20) (x % 2 ^ 20) (filtersFrom bs (i + 1))) (ap (filtersAbove 0 0) (sym is) ∙ l .rises) in
         ap (filtersIn p c) is

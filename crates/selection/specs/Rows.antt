@@ -2,15 +2,15 @@
 -- Assumes nothing.
 use Prim.Native.Nat.{ℕ, _<_}
 use mathlib.Core.Path.{_≡_}
-use mathlib.Core.Bool.{Bool, true}
+use mathlib.Core.Bool.{true}
 use mathlib.Core.List.{List, map}
 use Rattle.model.specs.Books.{Filter, filtersIn, filtersAbove}
-use Rattle.books.specs.Packed.{filterPlace, filterPlaces, filterOf}
+use Rattle.books.specs.Packed.{filterPlace, rowPlaces, filterOf}
 use Rattle.books.specs.Places.{restOf}
 
 -- the filters from place i on
 abbrev pub filtersFrom : List ℕ → ℕ → List Filter
-filtersFrom bs i = map filterOf (restOf (filterPlace bs) filterPlaces i)
+filtersFrom bs i = map filterOf (restOf (filterPlace bs) rowPlaces i)
 
 -- those before place i are of no provider above p, and those from there on still rise
 pub record Left (bs : List ℕ) (p i : ℕ) : Type 0 where

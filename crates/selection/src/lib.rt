@@ -10,7 +10,7 @@ use model::Marks;
 
 const FILTERS_AT: usize = 4104;
 
-const FILTER_PLACES: usize = 1024;
+const ROW_PLACES: usize = 1024;
 
 // Whether a filter's place is behind all of the provider's: free, or another's who comes later.
 fn past(w: u64, provider: u8) -> bool
@@ -42,8 +42,8 @@ pub fn selected(marks: Marks, books: &[u8], code: u64) -> u64
         }
         let mut seen = false;
         let mut seen_partner = partner == 0;
-        'filters: while i < FILTER_PLACES {
-            let w = octets::u32_at(books, FILTERS_AT + 4 * i);
+        'filters: while i < books::ROW_PLACES {
+            let w = octets::u32_at(books, books::FILTERS_AT + 4 * i);
             if past(w, provider) {
                 break 'filters;
             }

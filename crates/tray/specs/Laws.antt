@@ -8,13 +8,13 @@ use native.Mathlib.Nat.{mod-lt, mod-eq-of-lt, le-refl, div-one}
 use native.Mathlib.Omega.{arith}
 use borrow.Author.Tests.{lt-ltb}
 use lib.Dec.{eqb, ltb, lit<}
-use lib.ListN.{length, getD, take, drop, length-append, length-drop, take-append-drop}
+use lib.ListN.{length, take, drop, length-append, length-drop, take-append-drop}
 use lib.Seq.{length-take-le, drop-drop, take-at, take-all, drop-append-add}
 use Rattle.octets.specs.Octets.{Bytes, be, digits, put}
 use Rattle.octets.specs.Laws.{put-after, length-digits, be-digits, digits-be, be-word}
-use Rattle.octets.specs.Fields.{cut, join, fit, cut-join, join-cut, join-lt}
+use Rattle.octets.specs.Fields.{join, fit, cut-join, join-cut, join-lt}
 use Rattle.model.specs.declared.Message.{Message}
-use Rattle.tray.specs.Tray.{headWidths, tailWidths, headFields, tailFields, headOf, tailOf, Small, messageWith, messageOf, messageSize, messageBytes, messageFrom, readMessage, placesIn, putMessage, putAll, allBytes, trayAfter}
+use Rattle.tray.specs.Tray.{headWidths, tailWidths, headFields, tailFields, headOf, tailOf, Small, messageWith, messageOf, messageBytes, messageFrom, readMessage, placesIn, putMessage, putAll, allBytes, trayAfter}
 
 -- ---- a message put word by word
 

@@ -2,7 +2,6 @@
 ghost use mathlib.Core.Path.{_≡_};
 ghost use mathlib.Core.Bool.{cond};
 ghost use Prim.Native.Nat.{_+_, _*_, _<_, _≤_};
-ghost use lib.ListN.{length};
 ghost use Rattle.systems.specs.Set.{count};
 ghost use Rattle.tray.specs.Tray.{Small, headOf, tailOf, messageOf, messageFrom, placesIn, putMessage, toLocal, Sent};
 use model::Id;

@@ -3,7 +3,6 @@
 use borrow.Author.Needs.{needs}
 use Prim.Native.Nat.{_-_}
 use mathlib.Core.Path.{_≡_, refl, sym, _∙_}
-use native.Mathlib.Omega.{arith}
 use Rattle.books.specs.Packed.{placeOf, freeFrom}
 use Rattle.books.specs.Places.{free-used, free-more, free-end}
 use Rattle.books.proofs.free.Statement.{statement}

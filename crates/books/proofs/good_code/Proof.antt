@@ -1,7 +1,6 @@
 -- `books::good_code` meets its contract.
 -- Assumes nothing.
 use borrow.Author.Needs.{needs}
-use mathlib.Core.Path.{_≡_}
 use Rattle.books.proofs.good_code.Statement.{statement}
 use Rattle.books.proofs.good_code.Tie as tie
 

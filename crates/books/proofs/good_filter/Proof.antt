@@ -1,7 +1,7 @@
 -- `books::good_filter` meets its contract.
 -- Assumes nothing.
 use borrow.Author.Needs.{needs}
-use mathlib.Core.Path.{_≡_, sym}
+use mathlib.Core.Path.{sym}
 use Rattle.books.specs.Sound.{far}
 use Rattle.books.proofs.good_filter.Statement.{statement}
 use Rattle.books.proofs.good_filter.Tie as tie

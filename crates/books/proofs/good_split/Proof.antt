@@ -1,7 +1,6 @@
 -- `books::good_split` meets its contract.
 -- Assumes nothing.
 use borrow.Author.Needs.{needs}
-use mathlib.Core.Path.{_≡_}
 use Rattle.books.proofs.good_split.Statement.{statement}
 use Rattle.books.proofs.good_split.Tie as tie
 

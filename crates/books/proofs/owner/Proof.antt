@@ -4,16 +4,16 @@ use borrow.Author.Needs.{needs}
 use Prim.Native.Nat.{_-_}
 use mathlib.Core.Path.{_≡_, refl, sym, _∙_}
 use Rattle.model.specs.Books.{ownerOf}
-use Rattle.books.specs.Packed.{codePlace, codePlaces}
+use Rattle.books.specs.Packed.{codePlace, rowPlaces}
 use Rattle.books.specs.Search.{ownerFrom, owner-free, owner-here, owner-next, owner-end}
 use Rattle.books.proofs.owner.Statement.{statement}
 use Rattle.books.proofs.owner.Tie as tie
 
 abbrev Inv-loop : tie.InvT-loop
-Inv-loop books code i₀ i = ownerFrom (codePlace books) codePlaces 0 code ≡ ownerFrom (codePlace books) codePlaces i code
+Inv-loop books code i₀ i = ownerFrom (codePlace books) rowPlaces 0 code ≡ ownerFrom (codePlace books) rowPlaces i code
 
 abbrev μ-loop : tie.MeasureT-loop
-μ-loop books code i₀ i = codePlaces - i
+μ-loop books code i₀ i = rowPlaces - i
 
 loop-holds : tie.Need-loop-holds Inv-loop μ-loop
 loop-holds c = refl
@@ -33,7 +33,7 @@ returns c =
     let d = c .before in
     let a = d .before .before .before .before .args in
     let l = d .before .before .loop in
-    λ m. sym (l .inv ∙ owner-free (codePlace (a .books .now)) codePlaces (l .i) _ (a .code) (d .u32-at .ensures) (c .if1 .taken))
+    λ m. sym (l .inv ∙ owner-free (codePlace (a .books .now)) rowPlaces (l .i) _ (a .code) (d .u32-at .ensures) (c .if1 .taken))
 
 cast-result : tie.Need-cast-result Inv-loop μ-loop
 cast-result c = search needs
@@ -44,7 +44,7 @@ returns-2 c =
     let d = c .before .before in
     let a = d .before .before .before .before .args in
     let l = d .before .before .loop in
-    λ m. sym (l .inv ∙ owner-here (codePlace (a .books .now)) codePlaces (l .i) _ (a .code) (d .before .loop-test .taken) (d .u32-at .ensures) (c .before .if1 .left) (c .if2 .taken))
+    λ m. sym (l .inv ∙ owner-here (codePlace (a .books .now)) rowPlaces (l .i) _ (a .code) (d .before .loop-test .taken) (d .u32-at .ensures) (c .before .if1 .left) (c .if2 .taken))
 
 add-i : tie.Need-add-i Inv-loop μ-loop
 add-i c = search needs
@@ -57,14 +57,14 @@ loop-again c =
     let d = c .before .before in
     let a = d .before .before .before .before .args in
     let l = d .before .before .loop in
-    l .inv ∙ owner-next (codePlace (a .books .now)) codePlaces (l .i) _ (a .code) (d .before .loop-test .taken) (d .u32-at .ensures) (c .before .if1 .left) (c .if2 .left)
+    l .inv ∙ owner-next (codePlace (a .books .now)) rowPlaces (l .i) _ (a .code) (d .before .loop-test .taken) (d .u32-at .ensures) (c .before .if1 .left) (c .if2 .left)
 
 returns-3 : tie.Need-returns-3 Inv-loop μ-loop
 unfolding ownerOf
 returns-3 c =
     let a = c .before .before .before .args in
     let l = c .before .loop in
-    λ m. sym (l .inv ∙ owner-end (codePlace (a .books .now)) codePlaces (l .i) (a .code) (c .loop-test .left))
+    λ m. sym (l .inv ∙ owner-end (codePlace (a .books .now)) rowPlaces (l .i) (a .code) (c .loop-test .left))
 
 pub owner-spec : {M : Type 1} → statement M
 owner-spec =

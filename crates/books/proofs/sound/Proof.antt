@@ -1,7 +1,7 @@
 -- `books::sound` meets its contract: the parts in their order, the first that fails decides.
 -- Assumes nothing.
 use borrow.Author.Needs.{needs}
-use mathlib.Core.Path.{_≡_, sym, _∙_}
+use mathlib.Core.Path.{sym, _∙_}
 use borrow.Author.Tests.{eq-eqb, ne-eqb, not-true, not-false}
 use Rattle.books.specs.Sound.{sound-parts}
 use Rattle.books.proofs.sound.Statement.{statement}

@@ -4,17 +4,17 @@ use borrow.Author.Needs.{needs}
 use Prim.Native.Nat.{_-_}
 use mathlib.Core.Path.{_≡_, refl, sym, _∙_}
 use borrow.Author.Tests.{not-true, not-false}
-use Rattle.books.specs.Packed.{placeOf, codePlaces}
+use Rattle.books.specs.Packed.{placeOf, rowPlaces}
 use Rattle.books.specs.Scan.{scan, scan-free, scan-bad, scan-next, scan-end}
 use Rattle.books.specs.Sound.{rowTest}
 use Rattle.books.proofs.sound_rows.Statement.{statement}
 use Rattle.books.proofs.sound_rows.Tie as tie
 
 abbrev Inv-loop : tie.InvT-loop
-Inv-loop filters marks books at last₀ i₀ last i = scan (rowTest filters marks) (placeOf 4 at books) codePlaces 0 0 ≡ scan (rowTest filters marks) (placeOf 4 at books) (codePlaces - i) i last
+Inv-loop filters marks books at last₀ i₀ last i = scan (rowTest filters marks) (placeOf 4 at books) rowPlaces 0 0 ≡ scan (rowTest filters marks) (placeOf 4 at books) (rowPlaces - i) i last
 
 abbrev μ-loop : tie.MeasureT-loop
-μ-loop filters marks books at last₀ i₀ last i = codePlaces - i
+μ-loop filters marks books at last₀ i₀ last i = rowPlaces - i
 
 loop-holds : tie.Need-loop-holds Inv-loop μ-loop
 loop-holds c = refl
@@ -39,7 +39,7 @@ returns c =
     let d = c .before .before in
     let a = d .before .before .before .before .args in
     let l = d .before .before .loop in
-    c .free .ensures ∙ sym (l .inv ∙ scan-free (rowTest (a .filters) (a .marks)) (placeOf 4 (a .at) (a .books .now)) codePlaces (l .i) (l .last) _ (d .before .loop-test .taken) (d .u32-at .ensures) (c .before .if1 .taken))
+    c .free .ensures ∙ sym (l .inv ∙ scan-free (rowTest (a .filters) (a .marks)) (placeOf 4 (a .at) (a .books .now)) rowPlaces (l .i) (l .last) _ (d .before .loop-test .taken) (d .u32-at .ensures) (c .before .if1 .taken))
 
 good-row-requires : tie.Need-good-row-requires Inv-loop μ-loop
 good-row-requires c κs = search needs
@@ -49,7 +49,7 @@ returns-2 c =
     let d = c .before .before .before in
     let a = d .before .before .before .before .args in
     let l = d .before .before .loop in
-    sym (l .inv ∙ scan-bad (rowTest (a .filters) (a .marks)) (placeOf 4 (a .at) (a .books .now)) codePlaces (l .i) (l .last) _ (d .before .loop-test .taken) (d .u32-at .ensures) _ (c .before .before .if1 .left) (c .before .good-row .ensures) (not-true _ (c .if2 .taken)))
+    sym (l .inv ∙ scan-bad (rowTest (a .filters) (a .marks)) (placeOf 4 (a .at) (a .books .now)) rowPlaces (l .i) (l .last) _ (d .before .loop-test .taken) (d .u32-at .ensures) _ (c .before .before .if1 .left) (c .before .good-row .ensures) (not-true _ (c .if2 .taken)))
 
 add-i : tie.Need-add-i Inv-loop μ-loop
 add-i c = search needs
@@ -62,13 +62,13 @@ loop-again c =
     let d = c .before .before .before in
     let a = d .before .before .before .before .args in
     let l = d .before .before .loop in
-    l .inv ∙ scan-next (rowTest (a .filters) (a .marks)) (placeOf 4 (a .at) (a .books .now)) codePlaces (l .i) (l .last) _ (d .before .loop-test .taken) (d .u32-at .ensures) _ (c .before .before .if1 .left) (c .before .good-row .ensures) (not-false _ (c .if2 .left))
+    l .inv ∙ scan-next (rowTest (a .filters) (a .marks)) (placeOf 4 (a .at) (a .books .now)) rowPlaces (l .i) (l .last) _ (d .before .loop-test .taken) (d .u32-at .ensures) _ (c .before .before .if1 .left) (c .before .good-row .ensures) (not-false _ (c .if2 .left))
 
 returns-3 : tie.Need-returns-3 Inv-loop μ-loop
 returns-3 c =
     let a = c .before .before .before .args in
     let l = c .before .loop in
-    sym (l .inv ∙ scan-end (rowTest (a .filters) (a .marks)) (placeOf 4 (a .at) (a .books .now)) codePlaces (l .i) (l .last) (c .loop-test .left))
+    sym (l .inv ∙ scan-end (rowTest (a .filters) (a .marks)) (placeOf 4 (a .at) (a .books .now)) rowPlaces (l .i) (l .last) (c .loop-test .left))
 
 pub sound-rows-spec : {M : Type 1} → statement M
 sound-rows-spec =

@@ -1,6 +1,5 @@
 -- `providers::sound` meets its contract.
 -- Assumes nothing.
-use Prim.Native.Nat.{_<_, _^_}
 use borrow.Author.Needs.{needs}
 use Rattle.providers.specs.MarksLaws.{sound-bits}
 use Rattle.providers.proofs.sound.Statement.{statement}

@@ -3,7 +3,7 @@
 use borrow.Author.Needs.{needs}
 use Prim.Native.Nat.{ℕ, _+_, _-_, _≤_}
 use mathlib.Core.Path.{_≡_, refl, sym, ap, _∙_}
-use mathlib.Core.Bool.{Bool, true, false, _&&_, _||_}
+use mathlib.Core.Bool.{Bool, false, _&&_, _||_}
 use mathlib.Core.Logic.{⊎-elim}
 use native.Mathlib.Omega.{arith}
 use borrow.Author.Tests.{not-true, not-false}
@@ -11,7 +11,7 @@ use lib.Dec.{eqb}
 use Rattle.systems.specs.Set.{maskOf}
 use Rattle.model.specs.Books.{filtersIn}
 use Rattle.model.specs.Selection.{selects}
-use Rattle.books.specs.Packed.{filterPlaces, decodeBooks}
+use Rattle.books.specs.Packed.{rowPlaces, decodeBooks}
 use Rattle.books.specs.Given.{sound-length}
 use Rattle.selection.specs.Rows.{filtersFrom, Left}
 use Rattle.selection.specs.Laws.{left-start, left-up, left-row, left-end, left-past, seen-row, not-run, decided, undecided, skip-step, take-step, mask-room}
@@ -24,7 +24,7 @@ Inv-filters marks books code partner chosen provider i₀ seen₀ seen-partner�
     × ((eqb partner 0 || filtersIn provider partner (filtersFrom books 0)) ≡ (seen-partner || filtersIn provider partner (filtersFrom books i))) × ((seen && seen-partner) ≡ false)
 
 abbrev μ-filters : tie.MeasureT-filters
-μ-filters marks books code partner chosen provider i₀ seen₀ seen-partner₀ i seen seen-partner = filterPlaces - i
+μ-filters marks books code partner chosen provider i₀ seen₀ seen-partner₀ i seen seen-partner = rowPlaces - i
 
 abbrev Inv-providers : tie.InvT-providers
 Inv-providers marks books code partner chosen₀ provider₀ i₀ chosen provider i = (provider ≤ 63) × (chosen ≡ maskOf (selects (decodeBooks marks books) code) provider) × Left books provider i
