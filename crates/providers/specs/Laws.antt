@@ -2,7 +2,7 @@
 -- Assumes nothing.
 use Prim.Native.Nat.{ℕ, zero, suc, _+_, _-_, _%_, _^_, _≤_, _<_}
 use mathlib.Core.Path.{_≡_, refl, sym, ap, ap₂, _∙_}
-use mathlib.Core.Bool.{Bool, true, false, cond, not, _&&_, _||_, and-assoc}
+use mathlib.Core.Bool.{Bool, true, false, cond, not, _&&_, _||_, and-assoc, and-true}
 use mathlib.Core.List.{List, [], _∷_, _++_, map}
 use native.Mathlib.Nat.{one-mul, add-comm, add-zero, pow-suc, le-refl}
 use native.Mathlib.Decide.{le-ind}
@@ -13,6 +13,7 @@ use lib.Bits.{bitOr, or-shifted-r}
 use lib.Dec.{ltb, leb}
 use lib.ListN.{length, getD, take, List·getD-map, List·getD-eq-default}
 use lib.Seq.{take-suc, take-length}
+use Rattle.octets.specs.Fields.{false-true, and-l, and-r}
 use Rattle.systems.specs.Set.{member, maskOf}
 use Rattle.systems.specs.Laws.{mask-lt, mask-member}
 use Rattle.model.specs.Basics.{all, every, implies}
@@ -21,7 +22,7 @@ use Rattle.model.specs.Numbers.{isSet}
 use Rattle.model.specs.declared.Provider.{Provider}
 use Rattle.providers.specs.declared.Listed.{Listed}
 use Rattle.providers.specs.Providers.{absent, fine, presentAt, localAt, marksOf, nobody, unsound, listed, entryOf}
-use Rattle.providers.specs.MarksLaws.{both-true, every-of}
+use Rattle.providers.specs.MarksLaws.{every-of}
 use Rattle.providers.specs.Growth.{markOf, addsTo, grownBy, listedTo}
 
 -- ---- a step of the readers
@@ -52,11 +53,7 @@ mark-step f n on e = rw (← e) (go on)
 -- ---- the first n records
 
 all-append : {A : Type 0} (f : A → Bool) (xs : List A) (y : A) → all f (xs ++ (y ∷ [])) ≡ (all f xs && f y)
-all-append f [] y = and-one (f y)
-  where
-    and-one : (b : Bool) → (b && true) ≡ b
-    and-one true = refl
-    and-one false = refl
+all-append f [] y = and-true (f y)
 all-append f (x ∷ xs) y = ap (λ (b : Bool). f x && b) (all-append f xs y) ∙ sym (and-assoc (f x) (all f xs) (f y))
 
 fine-or : (x : Provider) → fine x ≡ (x .present || not (x .local))
@@ -158,7 +155,7 @@ in-room sound x i r e t = ltb-true i 63 (go sound (ltb i 63) (x .present || not 
     go : (x y b : Bool) → (x && y && b) ≡ true → y ≡ true
     go true true b h = refl
     go true false b h = h
-    go false y b h = absurd (let z : _≡_ {A = ℕ} 0 1 = cc in omega arith)
+    go false y b h = absurd (false-true h)
 
 -- ---- sound marks
 
@@ -173,8 +170,8 @@ mask-even f (suc n) = go (f (suc n)) (mask-even f n)
 
 all-at : (l : List Provider) → all fine l ≡ true → (i : ℕ) → fine (getD l i absent) ≡ true
 all-at [] e i = refl
-all-at (x ∷ xs) e zero = both-true (fine x) (all fine xs) e .0
-all-at (x ∷ xs) e (suc i) = all-at xs (both-true (fine x) (all fine xs) e .1) i
+all-at (x ∷ xs) e zero = and-l (fine x) (all fine xs) e
+all-at (x ∷ xs) e (suc i) = all-at xs (and-r (fine x) (all fine xs) e) i
 
 nobody-sound : soundMarks nobody ≡ true
 unfolding soundMarks every member

@@ -8,19 +8,13 @@ use native.Mathlib.Omega.{arith}
 use borrow.Author.Tests.{lt-ltb, eq-eqb, ne-eqb, eqb-true, eqb-false}
 use lib.Bits.{bitAnd, and-shr, and-step, and-le-l}
 use lib.Dec.{eqb, lit<}
+use Rattle.octets.specs.Fields.{false-true, and-l, and-r}
 use Rattle.systems.specs.Set.{member}
 use Rattle.systems.specs.Laws.{ext}
 use Rattle.model.specs.Basics.{every, implies}
 use Rattle.model.specs.Numbers.{isSet}
 use Rattle.model.specs.Books.{soundMarks}
 use Rattle.model.specs.declared.Marks.{Marks}
-
-no : false ≡ true → ⊥
-no e = let z : _≡_ {A = ℕ} 0 1 = cc in omega arith
-
-pub both-true : (a b : Bool) → (a && b) ≡ true → (a ≡ true) × (b ≡ true)
-both-true true b e = (refl, e)
-both-true false b e = absurd (no e)
 
 -- ---- a test of each of 1 to n
 
@@ -32,10 +26,10 @@ every-of f (suc n) h = ap₂ (λ (a b : Bool). a && b) (every-of f n (λ p k l. 
 pub every-at : (f : ℕ → Bool) (n : ℕ) → every f n ≡ true → (p : ℕ) → 0 < p → p ≤ n → f p ≡ true
 unfolding every
 every-at f zero e p h k = absurd (omega arith)
-every-at f (suc n) e p h k = go (every-at f n (both-true (every f n) (f (suc n)) e .0)) (eqb p (suc n)) refl
+every-at f (suc n) e p h k = go (every-at f n (and-l (every f n) (f (suc n)) e)) (eqb p (suc n)) refl
   where
     go : ((q : ℕ) → 0 < q → q ≤ n → f q ≡ true) → (b : Bool) → eqb p (suc n) ≡ b → f p ≡ true
-    go ih true x = ap f (eqb-true p (suc n) x) ∙ both-true (every f n) (f (suc n)) e .1
+    go ih true x = ap f (eqb-true p (suc n) x) ∙ and-r (every f n) (f (suc n)) e
     go ih false x = ih p h (let ne : (p ≡ suc n → ⊥) = eqb-false p (suc n) x in omega arith)
 
 -- ---- the meet of two sets
@@ -66,7 +60,7 @@ pub runs-present : (m : Marks) → soundMarks m ≡ true → (p : ℕ) → 0 < p
 unfolding soundMarks
 runs-present m e p h k r =
     let w : implies (member (m .local) p) (member (m .present) p) ≡ true
-    = every-at (λ (q : ℕ). implies (member (m .local) q) (member (m .present) q)) 63 (both-true (isSet (m .present) && isSet (m .local)) (every (λ (q : ℕ). implies (member (m .local) q) (member (m .present) q)) 63) e .1) p h k in
+    = every-at (λ (q : ℕ). implies (member (m .local) q) (member (m .present) q)) 63 (and-r (isSet (m .present) && isSet (m .local)) (every (λ (q : ℕ). implies (member (m .local) q) (member (m .present) q)) 63) e) p h k in
     rw r at w
 
 low : (s : ℕ) → eqb (s % 2) 0 ≡ true → member s 0 ≡ false
@@ -102,6 +96,6 @@ sound-bits m hp hl = rw (lt-ltb (m .present) (2 ^ 64) hp, lt-ltb (m .local) (2 ^
 
         same : (b : Bool) → every in? 63 ≡ b → eqb (bitAnd (m .local) (m .present)) (m .local) ≡ b
         same true e = eq-eqb _ _ (ext 64 _ _ (lt-of-le-of-lt (and-le-l (m .local) (m .present)) hl) hl (meet e))
-        same false e = ne-eqb _ _ (λ q. no (sym e ∙ every-of in? 63 (each q)))
+        same false e = ne-eqb _ _ (λ q. false-true (sym e ∙ every-of in? 63 (each q)))
     go true x false y = refl
     go false x b y = refl

@@ -11,7 +11,7 @@ use borrow.Author.Tests.{lt-ltb, eq-eqb, ne-eqb, ltb-true, ltb-false, eqb-true, 
 use lib.Dec.{eqb, ltb, leb}
 use lib.ListN.{length}
 use lib.Pow.{pow-mono}
-use Rattle.octets.specs.Fields.{and-l, and-r}
+use Rattle.octets.specs.Fields.{false-true, and-l, and-r}
 use Rattle.systems.specs.Set.{member, maskOf}
 use Rattle.systems.specs.Laws.{mask-lt}
 use Rattle.model.specs.Basics.{all}
@@ -24,9 +24,6 @@ use Rattle.books.specs.Packed.{filterPlace, rowPlaces, filterOf, filtersOf, dec
 use Rattle.books.specs.Places.{used-none, used-more, used-end}
 use Rattle.books.specs.Given.{sound-filters, sound-marks}
 use Rattle.selection.specs.Rows.{filtersFrom, Left}
-
-no : false ≡ true → ⊥
-no e = let z : _≡_ {A = ℕ} 0 1 = cc in omega arith
 
 -- ---- filters that rise
 
@@ -81,7 +78,7 @@ not-past : (x p : ℕ) (r : Bool) → r ≡ (eqb x 0 || ltb p (x / 2 ^ 20)) → 
 not-past x p r hr f = go (eqb x 0) refl (sym hr ∙ f)
   where
     go : (b : Bool) → eqb x 0 ≡ b → (b || ltb p (x / 2 ^ 20)) ≡ false → (x ≡ 0 → ⊥) × (x / 2 ^ 20 ≤ p)
-    go true e h = absurd (no (sym h))
+    go true e h = absurd (false-true (sym h))
     go false e h = (eqb-false x 0 e, ltb-false p (x / 2 ^ 20) h)
 
 module _ (bs : List ℕ) (p i x : ℕ) (r : Bool) (h : i < rowPlaces) (hx : x ≡ filterPlace bs i) (hr : r ≡ (eqb x 0 || ltb p (x / 2 ^ 20))) (f : r ≡ false) where

@@ -4,7 +4,7 @@ use Prim.Native.Nat.{ℕ, zero, suc, _+_, _-_, _*_, _/_, _%_, _^_, _≤_, _<_}
 use mathlib.Core.Path.{_≡_, refl, sym, ap, ap₂, _∙_}
 use mathlib.Core.Bool.{Bool, true, false, cond, _&&_}
 use mathlib.Core.List.{List, [], _∷_, _++_, append-assoc, append-nil}
-use native.Mathlib.Nat.{mod-lt, mod-eq-of-lt, le-refl, div-one}
+use native.Mathlib.Nat.{mod-lt, mod-eq-of-lt, le-refl, div-one, add-zero}
 use native.Mathlib.Omega.{arith}
 use borrow.Author.Tests.{lt-ltb}
 use lib.Dec.{eqb, ltb, lit<}
@@ -191,6 +191,20 @@ tray-all ms [] t = ap (λ (l : List Message). trayAfter l t) (sym (append-nil ms
 tray-all ms (x ∷ xs) t =
     ap₂ (λ (l : List ℕ) (k : ℕ). putAll l k xs) (sym (tray-more ms x t)) (sym (length-append ms (x ∷ []) ∙ omega arith)) ∙ tray-all (ms ++ (x ∷ [])) xs t
     ∙ ap (λ (l : List Message). trayAfter l t) (append-assoc ms (x ∷ []) xs)
+
+-- so messages put from the first place on are the tray after them
+pub tray-of : (xs : List Message) (t : List ℕ) → putAll t 0 xs ≡ trayAfter xs t
+tray-of xs t = ap (λ (l : List ℕ). putAll l 0 xs) (sym (tray-none t)) ∙ tray-all [] xs t
+
+-- messages put in two runs
+pub put-append : (xs ys : List Message) (t : List ℕ) (place : ℕ) → putAll (putAll t place xs) (place + length xs) ys ≡ putAll t place (xs ++ ys)
+unfolding putAll
+put-append [] ys t place = ap (λ (k : ℕ). putAll t k ys) (add-zero place)
+put-append (x ∷ xs) ys t place =
+    ap (λ (k : ℕ). putAll (putAll (putMessage t place x) (suc place) xs) k ys) (shift place (length xs)) ∙ put-append xs ys (putMessage t place x) (suc place)
+  where
+    shift : (a b : ℕ) → a + suc b ≡ suc a + b
+    shift a b = omega arith
 
 -- messages that have room leave the tray's length
 pub tray-length : (ms : List Message) (t : List ℕ) → 24 * length ms ≤ length t → length (trayAfter ms t) ≡ length t
