@@ -1,6 +1,6 @@
 -- Laws of used and free places: what place i leaves to the next, for n places in all.
 -- Assumes nothing.
-use Prim.Native.Nat.{ℕ, zero, suc, _+_, _-_, _*_, _^_, _≤_, _<_, zero-le}
+use Prim.Native.Nat.{ℕ, zero, suc, _+_, _-_, _*_, _/_, _%_, _^_, _≤_, _<_, zero-le}
 use mathlib.Core.Path.{_≡_, refl, sym, ap, ap₂, _∙_}
 use mathlib.Core.Bool.{Bool, true, false, cond, _&&_, and-assoc}
 use mathlib.Core.List.{List, [], _∷_}
@@ -92,3 +92,14 @@ free-pairs bs at (suc m) i =
         cases true e true k = eq-eqb (be 8 bs (at + 8 * i)) 0 (omega (arith, h, eqb-true a 0 e, eqb-true b 0 k))
         cases true e false k = ne-eqb (be 8 bs (at + 8 * i)) 0 (λ q. eqb-false b 0 k (omega (arith, h, q)))
         cases false e y k = ne-eqb (be 8 bs (at + 8 * i)) 0 (λ q. eqb-false a 0 e (omega (arith, h, q)))
+
+-- the same from a place of four bytes on, of 2 * n in all: an even one, and an odd one that is free
+pub free-even : (bs : List ℕ) (at n i : ℕ) → (i % 2 ≡ 1 → ⊥) → freeFrom (placeOf 4 at bs) (2 * n - i) i ≡ freeFrom (placeOf 8 at bs) (n - i / 2) (i / 2)
+free-even bs at n i h =
+    let e : i ≡ 2 * (i / 2) = omega arith in
+    let m : 2 * n - i ≡ 2 * (n - i / 2) = omega arith in
+    ap₂ (freeFrom (placeOf 4 at bs)) m e ∙ sym (free-pairs bs at (n - i / 2) (i / 2))
+
+pub free-odd : (bs : List ℕ) (at n i x : ℕ) → i ≤ 2 * n → i % 2 ≡ 1 → x ≡ placeOf 4 at bs i → x ≡ 0
+    → freeFrom (placeOf 4 at bs) (2 * n - i) i ≡ freeFrom (placeOf 8 at bs) (n - (i + 1) / 2) ((i + 1) / 2)
+free-odd bs at n i x l h hx z = free-more (placeOf 4 at bs) (2 * n) i x (omega arith) hx z ∙ free-even bs at n (i + 1) (omega arith)

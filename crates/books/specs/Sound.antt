@@ -1,6 +1,6 @@
 -- Sound books, place by place: what the pass over each list tests, and that this is soundness.
 -- Assumes nothing.
-use Prim.Native.Nat.{ℕ, _+_, _-_, _*_, _/_, _%_, _^_, _≤_, _<_}
+use Prim.Native.Nat.{ℕ, _+_, _-_, _/_, _%_, _^_, _≤_, _<_}
 use mathlib.Core.Path.{_≡_, refl, sym, ap, ap₂, _∙_}
 use mathlib.Core.Bool.{Bool, true, false, cond, not, _&&_, _||_, and-assoc, and-false}
 use mathlib.Core.List.{List, [], _∷_, map}
@@ -13,9 +13,9 @@ use Rattle.model.specs.Basics.{all}
 use Rattle.model.specs.Numbers.{isCode, isProvider}
 use Rattle.model.specs.Books.{Owned, Filter, Split, soundMarks, codesAbove, soundCodes, filtersAbove, soundFilters, unsplit, splitOnce, soundSplits, soundBooks}
 use Rattle.model.specs.declared.Marks.{Marks}
-use Rattle.books.specs.Packed.{bookBytes, rowPlaces, splitsAt, splitPlaces, placeOf, headOf, codePlace, filterPlace, splitPlace, ownedOf, filterOf, splitOf, usedFrom, freeFrom, packedFrom, soundBytes}
-use Rattle.books.specs.Places.{restOf, used-more, used-length, free-pairs}
-use Rattle.books.specs.Scan.{Test, chain, scan, scan-is, scan-free, scan-next, scan-forgets}
+use Rattle.books.specs.Packed.{bookBytes, rowPlaces, splitPlaces, headOf, codePlace, filterPlace, splitPlace, ownedOf, filterOf, splitOf, usedFrom, packedFrom, soundBytes}
+use Rattle.books.specs.Places.{restOf, used-more, used-length}
+use Rattle.books.specs.Scan.{Test, chain, scan, scan-is, scan-next, scan-forgets}
 
 -- ---- the tests
 
@@ -154,14 +154,6 @@ module _ (w : ℕ → ℕ) (n i x a b : ℕ) (h : i < n) (hx : x ≡ w i) (nz : 
 
   pub apart-next : r ≡ false → s ≡ false → apartFrom a b (restOf w n i) ≡ apartFrom a b (restOf w n (i + 1))
   apart-next f g = apart-row ∙ rw (f, g)
-
--- behind the last pair all places are free, as two of four bytes each
-pub split-free : (bs : List ℕ) (i last x : ℕ) (r : Bool) → i < splitPlaces → x ≡ splitPlace bs i → x ≡ 0
-    → r ≡ freeFrom (placeOf 4 splitsAt bs) (2 * splitPlaces - 2 * (i + 1)) (2 * (i + 1)) → r ≡ scan splitTest (splitPlace bs) (splitPlaces - i) i last
-split-free bs i last x r h hx z hr =
-    let e : 2 * splitPlaces - 2 * (i + 1) ≡ 2 * (splitPlaces - (i + 1)) = omega arith in
-    hr ∙ ap (λ (m : ℕ). freeFrom (placeOf 4 splitsAt bs) m (2 * (i + 1))) e ∙ sym (free-pairs bs splitsAt (splitPlaces - (i + 1)) (i + 1))
-    ∙ sym (scan-free splitTest (splitPlace bs) splitPlaces i last x h hx z)
 
 -- a sound pair leaves it to the next
 pub split-next : (bs : List ℕ) (i x : ℕ) (r : Bool) → i < splitPlaces → x ≡ splitPlace bs i → (x ≡ 0 → ⊥) → r ≡ goodSplit x (restOf (splitPlace bs) splitPlaces (i + 1)) → r ≡ true

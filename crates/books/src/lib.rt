@@ -26,20 +26,35 @@ const SPLITS_AT: usize = 8200;
 
 const SPLIT_PLACES: usize = 64;
 
-// Whether all places of four bytes from place i on are free, of n from at.
+// Whether all places of eight bytes from place i on are free, of n from at.
 fn free(books: &[u8], at: usize, n: usize, i: usize) -> bool
-    requires { ⌜ at + 4 * n ≤ length (now books) ⌝ }
-    ensures { λ r. ⌜ r ≡ freeFrom (placeOf 4 at (now (books .entry))) (n - i) i ⌝ }
+    requires { ⌜ at + 8 * n ≤ length (now books) ⌝ }
+    ensures { λ r. ⌜ r ≡ freeFrom (placeOf 8 at (now (books .entry))) (n - i) i ⌝ }
 {
     let mut k = i;
     while k < n {
-        let w = octets::u32_at(books, at + 4 * k);
+        let w = octets::u64_at(books, at + 8 * k);
         if w != 0 {
             return false;
         }
         k += 1;
     }
     true
+}
+
+// The same for codes or filters, places of four bytes: two at a time.
+fn free_rows(books: &[u8], at: usize, i: usize) -> bool
+    requires { ⌜ (at + 4 * rowPlaces ≤ length (now books)) × (i ≤ rowPlaces) ⌝ }
+    ensures { λ r. ⌜ r ≡ freeFrom (placeOf 4 at (now (books .entry))) (rowPlaces - i) i ⌝ }
+{
+    if i % 2 == 1 {
+        let w = octets::u32_at(books, at + 4 * i);
+        if w != 0 {
+            return false;
+        }
+        return free(books, at, ROW_PLACES / 2, (i + 1) / 2);
+    }
+    free(books, at, ROW_PLACES / 2, i / 2)
 }
 
 fn is_code(c: u64) -> bool
@@ -134,7 +149,7 @@ fn sound_rows(filters: bool, marks: Marks, books: &[u8], at: usize) -> bool
     while i < ROW_PLACES {
         let w = octets::u32_at(books, at + 4 * i);
         if w == 0 {
-            return free(books, at, ROW_PLACES, i + 1);
+            return free_rows(books, at, i + 1);
         }
         if !good_row(filters, marks, last, w) {
             return false;
@@ -155,7 +170,7 @@ fn sound_splits(books: &[u8]) -> bool
         let w = octets::u64_at(books, SPLITS_AT + 8 * i);
         i += 1;
         if w == 0 {
-            return free(books, SPLITS_AT, 2 * SPLIT_PLACES, 2 * i);
+            return free(books, SPLITS_AT, SPLIT_PLACES, i);
         }
         if !good_split(books, w, i) {
             return false;

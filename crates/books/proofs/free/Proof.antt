@@ -9,7 +9,7 @@ use Rattle.books.proofs.free.Statement.{statement}
 use Rattle.books.proofs.free.Tie as tie
 
 abbrev Inv-loop : tie.InvT-loop
-Inv-loop books at n i k₀ k = freeFrom (placeOf 4 at books) (n - i) i ≡ freeFrom (placeOf 4 at books) (n - k) k
+Inv-loop books at n i k₀ k = freeFrom (placeOf 8 at books) (n - i) i ≡ freeFrom (placeOf 8 at books) (n - k) k
 
 abbrev μ-loop : tie.MeasureT-loop
 μ-loop books at n i k₀ k = n - k
@@ -17,20 +17,20 @@ abbrev μ-loop : tie.MeasureT-loop
 loop-holds : tie.Need-loop-holds Inv-loop μ-loop
 loop-holds c = refl
 
-mul-u32-at : tie.Need-mul-u32-at Inv-loop μ-loop
-mul-u32-at c = search needs
+mul-u64-at : tie.Need-mul-u64-at Inv-loop μ-loop
+mul-u64-at c = search needs
 
-add-u32-at : tie.Need-add-u32-at Inv-loop μ-loop
-add-u32-at c = search needs
+add-u64-at : tie.Need-add-u64-at Inv-loop μ-loop
+add-u64-at c = search needs
 
-u32-at-requires : tie.Need-u32-at-requires Inv-loop μ-loop
-u32-at-requires c κs = search needs
+u64-at-requires : tie.Need-u64-at-requires Inv-loop μ-loop
+u64-at-requires c κs = search needs
 
 returns : tie.Need-returns Inv-loop μ-loop
 returns c =
     let a = c .before .before .before .before .before .args in
     let l = c .before .before .before .loop in
-    sym (l .inv ∙ free-used (placeOf 4 (a .at) (a .books .now)) (a .n) (l .k) _ (c .before .before .loop-test .taken) (c .before .u32-at .ensures) (c .if1 .taken))
+    sym (l .inv ∙ free-used (placeOf 8 (a .at) (a .books .now)) (a .n) (l .k) _ (c .before .before .loop-test .taken) (c .before .u64-at .ensures) (c .if1 .taken))
 
 add-k : tie.Need-add-k Inv-loop μ-loop
 add-k c = search needs
@@ -42,13 +42,13 @@ loop-again : tie.Need-loop-again Inv-loop μ-loop
 loop-again c =
     let a = c .before .before .before .before .before .args in
     let l = c .before .before .before .loop in
-    l .inv ∙ free-more (placeOf 4 (a .at) (a .books .now)) (a .n) (l .k) _ (c .before .before .loop-test .taken) (c .before .u32-at .ensures) (c .if1 .left)
+    l .inv ∙ free-more (placeOf 8 (a .at) (a .books .now)) (a .n) (l .k) _ (c .before .before .loop-test .taken) (c .before .u64-at .ensures) (c .if1 .left)
 
 returns-2 : tie.Need-returns-2 Inv-loop μ-loop
 returns-2 c =
     let a = c .before .before .before .args in
     let l = c .before .loop in
-    sym (l .inv ∙ free-end (placeOf 4 (a .at) (a .books .now)) (a .n) (l .k) (c .loop-test .left))
+    sym (l .inv ∙ free-end (placeOf 8 (a .at) (a .books .now)) (a .n) (l .k) (c .loop-test .left))
 
 pub free-spec : {M : Type 1} → statement M
 free-spec =
@@ -57,9 +57,9 @@ free-spec =
     Inv-loop
     μ-loop
     loop-holds
-    mul-u32-at
-    add-u32-at
-    u32-at-requires
+    mul-u64-at
+    add-u64-at
+    u64-at-requires
     returns
     add-k
     loop-less

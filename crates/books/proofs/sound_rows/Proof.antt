@@ -28,18 +28,18 @@ add-u32-at c = search needs
 u32-at-requires : tie.Need-u32-at-requires Inv-loop μ-loop
 u32-at-requires c κs = search needs
 
-add-free : tie.Need-add-free Inv-loop μ-loop
-add-free c = search needs
+add-free-rows : tie.Need-add-free-rows Inv-loop μ-loop
+add-free-rows c = search needs
 
-free-requires : tie.Need-free-requires Inv-loop μ-loop
-free-requires c κs = search needs
+free-rows-requires : tie.Need-free-rows-requires Inv-loop μ-loop
+free-rows-requires c κs = search needs
 
 returns : tie.Need-returns Inv-loop μ-loop
 returns c =
     let d = c .before .before in
     let a = d .before .before .before .before .args in
     let l = d .before .before .loop in
-    c .free .ensures ∙ sym (l .inv ∙ scan-free (rowTest (a .filters) (a .marks)) (placeOf 4 (a .at) (a .books .now)) rowPlaces (l .i) (l .last) _ (d .before .loop-test .taken) (d .u32-at .ensures) (c .before .if1 .taken))
+    c .free-rows .ensures ∙ sym (l .inv ∙ scan-free (rowTest (a .filters) (a .marks)) (placeOf 4 (a .at) (a .books .now)) rowPlaces (l .i) (l .last) _ (d .before .loop-test .taken) (d .u32-at .ensures) (c .before .if1 .taken))
 
 good-row-requires : tie.Need-good-row-requires Inv-loop μ-loop
 good-row-requires c κs = search needs
@@ -80,8 +80,8 @@ sound-rows-spec =
     mul-u32-at
     add-u32-at
     u32-at-requires
-    add-free
-    free-requires
+    add-free-rows
+    free-rows-requires
     returns
     good-row-requires
     returns-2

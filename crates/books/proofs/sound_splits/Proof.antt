@@ -5,8 +5,8 @@ use Prim.Native.Nat.{_-_}
 use mathlib.Core.Path.{_≡_, refl, sym, _∙_}
 use borrow.Author.Tests.{not-true, not-false}
 use Rattle.books.specs.Packed.{splitPlace, splitPlaces}
-use Rattle.books.specs.Scan.{scan, scan-bad, scan-end}
-use Rattle.books.specs.Sound.{splitTest, split-free, split-next}
+use Rattle.books.specs.Scan.{scan, scan-free, scan-bad, scan-end}
+use Rattle.books.specs.Sound.{splitTest, split-next}
 use Rattle.books.proofs.sound_splits.Statement.{statement}
 use Rattle.books.proofs.sound_splits.Tie as tie
 
@@ -31,12 +31,6 @@ u64-at-requires c κs = search needs
 add-i : tie.Need-add-i Inv-loop μ-loop
 add-i c = search needs
 
-mul-free : tie.Need-mul-free Inv-loop μ-loop
-mul-free c = search needs
-
-mul-free-2 : tie.Need-mul-free-2 Inv-loop μ-loop
-mul-free-2 c = search needs
-
 free-requires : tie.Need-free-requires Inv-loop μ-loop
 free-requires c κs = search needs
 
@@ -44,7 +38,8 @@ returns : tie.Need-returns Inv-loop μ-loop
 returns c =
     let d = c .before .before in
     let l = d .before .before .loop in
-    split-free (d .before .before .before .before .args .books .now) (l .i) 0 _ _ (d .before .loop-test .taken) (d .u64-at .ensures) (c .before .if1 .taken) (c .free .ensures) ∙ sym (l .inv)
+    c .free .ensures
+    ∙ sym (l .inv ∙ scan-free splitTest (splitPlace (d .before .before .before .before .args .books .now)) splitPlaces (l .i) 0 _ (d .before .loop-test .taken) (d .u64-at .ensures) (c .before .if1 .taken))
 
 good-split-requires : tie.Need-good-split-requires Inv-loop μ-loop
 good-split-requires c κs = search needs
@@ -80,8 +75,6 @@ sound-splits-spec =
     add-u64-at
     u64-at-requires
     add-i
-    mul-free
-    mul-free-2
     free-requires
     returns
     good-split-requires
