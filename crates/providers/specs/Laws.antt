@@ -21,7 +21,8 @@ use Rattle.model.specs.Books.{soundMarks}
 use Rattle.model.specs.Numbers.{isSet}
 use Rattle.model.specs.declared.Provider.{Provider}
 use Rattle.providers.specs.declared.Listed.{Listed}
-use Rattle.providers.specs.Providers.{absent, fine, presentAt, localAt, marksOf, nobody, unsound, listed, entryOf}
+use Rattle.model.specs.declared.Marks.{Marks}
+use Rattle.providers.specs.Providers.{absent, fine, soundList, presentAt, localAt, marksOf, nobody, unsound, listed, entryOf}
 use Rattle.providers.specs.MarksLaws.{every-of}
 use Rattle.providers.specs.Growth.{markOf, addsTo, grownBy, listedTo}
 
@@ -192,3 +193,24 @@ listed-sound l = go (leb (length l) 63) (all fine l) refl
     go true true e = ap₂ (λ (a b : Bool). a && b) (ap₂ (λ (a b : Bool). a && b) (set (presentAt l)) (set (localAt l))) (every-of _ 63 (within e))
     go true false e = nobody-sound
     go false b e = nobody-sound
+
+-- ---- what a list says, for callers
+
+pub listed-says : (l : List Provider) → listed l .sound ≡ soundList l
+unfolding listed
+listed-says l = go (soundList l)
+  where
+    go : (b : Bool) → cond b (record { sound = true; marks = marksOf l }) unsound .sound ≡ b
+    go true = refl
+    go false = refl
+
+pub listed-marks : (l : List Provider) → soundList l ≡ true → listed l .marks ≡ marksOf l
+unfolding listed
+listed-marks l e = ap (λ (b : Bool). cond b (record { sound = true; marks = marksOf l }) unsound .marks) e
+
+-- provider p is in the sets where its record, at place p - 1, has the marks
+pub listed-present : (l : List Provider) → soundList l ≡ true → (p : ℕ) → 0 < p → p ≤ 63 → member (listed l .marks .present) p ≡ presentAt l p
+listed-present l e p h k = ap (λ (m : Marks). member (m .present) p) (listed-marks l e) ∙ mask-member (presentAt l) 63 p h k
+
+pub listed-local : (l : List Provider) → soundList l ≡ true → (p : ℕ) → 0 < p → p ≤ 63 → member (listed l .marks .local) p ≡ localAt l p
+listed-local l e p h k = ap (λ (m : Marks). member (m .local) p) (listed-marks l e) ∙ mask-member (localAt l) 63 p h k
