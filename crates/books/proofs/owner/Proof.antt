@@ -1,0 +1,85 @@
+-- `books::owner` meets its contract. The loop's invariant: the codes that are left decide.
+-- Assumes nothing.
+use borrow.Author.Needs.{needs}
+use Prim.Native.Nat.{_-_}
+use mathlib.Core.Path.{_≡_, refl, sym, _∙_}
+use Rattle.model.specs.Books.{ownerOf}
+use Rattle.books.specs.Packed.{codePlace, rowPlaces}
+use Rattle.books.specs.Search.{ownerFrom, owner-free, owner-here, owner-next, owner-end}
+use Rattle.books.proofs.owner.Statement.{statement}
+use Rattle.books.proofs.owner.Tie as tie
+
+abbrev Inv-loop : tie.InvT-loop
+Inv-loop books code i₀ i = ownerFrom (codePlace books) rowPlaces 0 code ≡ ownerFrom (codePlace books) rowPlaces i code
+
+abbrev μ-loop : tie.MeasureT-loop
+μ-loop books code i₀ i = rowPlaces - i
+
+loop-holds : tie.Need-loop-holds Inv-loop μ-loop
+loop-holds c = refl
+
+mul-u32-at : tie.Need-mul-u32-at Inv-loop μ-loop
+mul-u32-at c = search needs
+
+add-u32-at : tie.Need-add-u32-at Inv-loop μ-loop
+add-u32-at c = search needs
+
+u32-at-requires : tie.Need-u32-at-requires Inv-loop μ-loop
+u32-at-requires c κs = search needs
+
+returns : tie.Need-returns Inv-loop μ-loop
+unfolding ownerOf
+returns c =
+    let d = c .before in
+    let a = d .before .before .before .before .args in
+    let l = d .before .before .loop in
+    λ m. sym (l .inv ∙ owner-free (codePlace (a .books .now)) rowPlaces (l .i) _ (a .code) (d .u32-at .ensures) (c .if1 .taken))
+
+cast-result : tie.Need-cast-result Inv-loop μ-loop
+cast-result c = search needs
+
+returns-2 : tie.Need-returns-2 Inv-loop μ-loop
+unfolding ownerOf
+returns-2 c =
+    let d = c .before .before in
+    let a = d .before .before .before .before .args in
+    let l = d .before .before .loop in
+    λ m. sym (l .inv ∙ owner-here (codePlace (a .books .now)) rowPlaces (l .i) _ (a .code) (d .before .loop-test .taken) (d .u32-at .ensures) (c .before .if1 .left) (c .if2 .taken))
+
+add-i : tie.Need-add-i Inv-loop μ-loop
+add-i c = search needs
+
+loop-less : tie.Need-loop-less Inv-loop μ-loop
+loop-less c = search needs
+
+loop-again : tie.Need-loop-again Inv-loop μ-loop
+loop-again c =
+    let d = c .before .before in
+    let a = d .before .before .before .before .args in
+    let l = d .before .before .loop in
+    l .inv ∙ owner-next (codePlace (a .books .now)) rowPlaces (l .i) _ (a .code) (d .before .loop-test .taken) (d .u32-at .ensures) (c .before .if1 .left) (c .if2 .left)
+
+returns-3 : tie.Need-returns-3 Inv-loop μ-loop
+unfolding ownerOf
+returns-3 c =
+    let a = c .before .before .before .args in
+    let l = c .before .loop in
+    λ m. sym (l .inv ∙ owner-end (codePlace (a .books .now)) rowPlaces (l .i) (a .code) (c .loop-test .left))
+
+pub owner-spec : {M : Type 1} → statement M
+owner-spec =
+    tie.close
+    (tie.spec
+    Inv-loop
+    μ-loop
+    loop-holds
+    mul-u32-at
+    add-u32-at
+    u32-at-requires
+    returns
+    cast-result
+    returns-2
+    add-i
+    loop-less
+    loop-again
+    returns-3)

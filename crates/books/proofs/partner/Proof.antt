@@ -1,0 +1,90 @@
+-- `books::partner` meets its contract. The loop's invariant: the pairs that are left decide.
+-- Assumes nothing.
+use borrow.Author.Needs.{needs}
+use Prim.Native.Nat.{_-_}
+use mathlib.Core.Path.{_≡_, refl, sym, _∙_}
+use Rattle.model.specs.Books.{partnerOf}
+use Rattle.books.specs.Packed.{splitPlace, splitPlaces}
+use Rattle.books.specs.Search.{partnerFrom, partner-free, partner-one, partner-other, partner-next, partner-end}
+use Rattle.books.proofs.partner.Statement.{statement}
+use Rattle.books.proofs.partner.Tie as tie
+
+abbrev Inv-loop : tie.InvT-loop
+Inv-loop books code i₀ i = partnerFrom (splitPlace books) splitPlaces 0 code ≡ partnerFrom (splitPlace books) splitPlaces i code
+
+abbrev μ-loop : tie.MeasureT-loop
+μ-loop books code i₀ i = splitPlaces - i
+
+loop-holds : tie.Need-loop-holds Inv-loop μ-loop
+loop-holds c = refl
+
+mul-u64-at : tie.Need-mul-u64-at Inv-loop μ-loop
+mul-u64-at c = search needs
+
+add-u64-at : tie.Need-add-u64-at Inv-loop μ-loop
+add-u64-at c = search needs
+
+u64-at-requires : tie.Need-u64-at-requires Inv-loop μ-loop
+u64-at-requires c κs = search needs
+
+returns : tie.Need-returns Inv-loop μ-loop
+unfolding partnerOf
+returns c =
+    let d = c .before in
+    let a = d .before .before .before .before .args in
+    let l = d .before .before .loop in
+    λ m. sym (l .inv ∙ partner-free (splitPlace (a .books .now)) splitPlaces (l .i) _ (a .code) (d .u64-at .ensures) (c .if1 .taken))
+
+returns-2 : tie.Need-returns-2 Inv-loop μ-loop
+unfolding partnerOf
+returns-2 c =
+    let d = c .before .before in
+    let a = d .before .before .before .before .args in
+    let l = d .before .before .loop in
+    λ m. sym (l .inv ∙ partner-one (splitPlace (a .books .now)) splitPlaces (l .i) _ (a .code) (d .before .loop-test .taken) (d .u64-at .ensures) (c .before .if1 .left) (c .if2 .taken))
+
+returns-3 : tie.Need-returns-3 Inv-loop μ-loop
+unfolding partnerOf
+returns-3 c =
+    let d = c .before .before .before in
+    let a = d .before .before .before .before .args in
+    let l = d .before .before .loop in
+    λ m. sym (l .inv ∙ partner-other (splitPlace (a .books .now)) splitPlaces (l .i) _ (a .code) (d .before .loop-test .taken) (d .u64-at .ensures) (c .before .before .if1 .left) (c .before .if2 .left) (c .if3 .taken))
+
+add-i : tie.Need-add-i Inv-loop μ-loop
+add-i c = search needs
+
+loop-less : tie.Need-loop-less Inv-loop μ-loop
+loop-less c = search needs
+
+loop-again : tie.Need-loop-again Inv-loop μ-loop
+loop-again c =
+    let d = c .before .before .before in
+    let a = d .before .before .before .before .args in
+    let l = d .before .before .loop in
+    l .inv ∙ partner-next (splitPlace (a .books .now)) splitPlaces (l .i) _ (a .code) (d .before .loop-test .taken) (d .u64-at .ensures) (c .before .before .if1 .left) (c .before .if2 .left) (c .if3 .left)
+
+returns-4 : tie.Need-returns-4 Inv-loop μ-loop
+unfolding partnerOf
+returns-4 c =
+    let a = c .before .before .before .args in
+    let l = c .before .loop in
+    λ m. sym (l .inv ∙ partner-end (splitPlace (a .books .now)) splitPlaces (l .i) (a .code) (c .loop-test .left))
+
+pub partner-spec : {M : Type 1} → statement M
+partner-spec =
+    tie.close
+    (tie.spec
+    Inv-loop
+    μ-loop
+    loop-holds
+    mul-u64-at
+    add-u64-at
+    u64-at-requires
+    returns
+    returns-2
+    returns-3
+    add-i
+    loop-less
+    loop-again
+    returns-4)

@@ -1,0 +1,91 @@
+-- `books::sound_rows` meets its contract. The loop's invariant: the places that are left decide.
+-- Assumes nothing.
+use borrow.Author.Needs.{needs}
+use Prim.Native.Nat.{_-_}
+use mathlib.Core.Path.{_≡_, refl, sym, _∙_}
+use borrow.Author.Tests.{not-true, not-false}
+use Rattle.books.specs.Packed.{placeOf, rowPlaces}
+use Rattle.books.specs.Scan.{scan, scan-free, scan-bad, scan-next, scan-end}
+use Rattle.books.specs.Sound.{rowTest}
+use Rattle.books.proofs.sound_rows.Statement.{statement}
+use Rattle.books.proofs.sound_rows.Tie as tie
+
+abbrev Inv-loop : tie.InvT-loop
+Inv-loop filters marks books at last₀ i₀ last i = scan (rowTest filters marks) (placeOf 4 at books) rowPlaces 0 0 ≡ scan (rowTest filters marks) (placeOf 4 at books) (rowPlaces - i) i last
+
+abbrev μ-loop : tie.MeasureT-loop
+μ-loop filters marks books at last₀ i₀ last i = rowPlaces - i
+
+loop-holds : tie.Need-loop-holds Inv-loop μ-loop
+loop-holds c = refl
+
+mul-u32-at : tie.Need-mul-u32-at Inv-loop μ-loop
+mul-u32-at c = search needs
+
+add-u32-at : tie.Need-add-u32-at Inv-loop μ-loop
+add-u32-at c = search needs
+
+u32-at-requires : tie.Need-u32-at-requires Inv-loop μ-loop
+u32-at-requires c κs = search needs
+
+add-free-rows : tie.Need-add-free-rows Inv-loop μ-loop
+add-free-rows c = search needs
+
+free-rows-requires : tie.Need-free-rows-requires Inv-loop μ-loop
+free-rows-requires c κs = search needs
+
+returns : tie.Need-returns Inv-loop μ-loop
+returns c =
+    let d = c .before .before in
+    let a = d .before .before .before .before .args in
+    let l = d .before .before .loop in
+    c .free-rows .ensures ∙ sym (l .inv ∙ scan-free (rowTest (a .filters) (a .marks)) (placeOf 4 (a .at) (a .books .now)) rowPlaces (l .i) (l .last) _ (d .before .loop-test .taken) (d .u32-at .ensures) (c .before .if1 .taken))
+
+good-row-requires : tie.Need-good-row-requires Inv-loop μ-loop
+good-row-requires c κs = search needs
+
+returns-2 : tie.Need-returns-2 Inv-loop μ-loop
+returns-2 c =
+    let d = c .before .before .before in
+    let a = d .before .before .before .before .args in
+    let l = d .before .before .loop in
+    sym (l .inv ∙ scan-bad (rowTest (a .filters) (a .marks)) (placeOf 4 (a .at) (a .books .now)) rowPlaces (l .i) (l .last) _ (d .before .loop-test .taken) (d .u32-at .ensures) _ (c .before .before .if1 .left) (c .before .good-row .ensures) (not-true _ (c .if2 .taken)))
+
+add-i : tie.Need-add-i Inv-loop μ-loop
+add-i c = search needs
+
+loop-less : tie.Need-loop-less Inv-loop μ-loop
+loop-less c = search needs
+
+loop-again : tie.Need-loop-again Inv-loop μ-loop
+loop-again c =
+    let d = c .before .before .before in
+    let a = d .before .before .before .before .args in
+    let l = d .before .before .loop in
+    l .inv ∙ scan-next (rowTest (a .filters) (a .marks)) (placeOf 4 (a .at) (a .books .now)) rowPlaces (l .i) (l .last) _ (d .before .loop-test .taken) (d .u32-at .ensures) _ (c .before .before .if1 .left) (c .before .good-row .ensures) (not-false _ (c .if2 .left))
+
+returns-3 : tie.Need-returns-3 Inv-loop μ-loop
+returns-3 c =
+    let a = c .before .before .before .args in
+    let l = c .before .loop in
+    sym (l .inv ∙ scan-end (rowTest (a .filters) (a .marks)) (placeOf 4 (a .at) (a .books .now)) rowPlaces (l .i) (l .last) (c .loop-test .left))
+
+pub sound-rows-spec : {M : Type 1} → statement M
+sound-rows-spec =
+    tie.close
+    (tie.spec
+    Inv-loop
+    μ-loop
+    loop-holds
+    mul-u32-at
+    add-u32-at
+    u32-at-requires
+    add-free-rows
+    free-rows-requires
+    returns
+    good-row-requires
+    returns-2
+    add-i
+    loop-less
+    loop-again
+    returns-3)

@@ -1,0 +1,4 @@
+pub mod Providers
+pub mod Growth
+pub mod MarksLaws
+pub mod Laws

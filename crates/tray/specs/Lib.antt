@@ -1,0 +1,4 @@
+pub mod Tray
+pub mod Laws
+pub mod Downloads
+pub mod Worked
