@@ -77,7 +77,7 @@ pub members-few : (s : ℕ) → length (members s) ≤ 63
 unfolding members
 members-few s = length-members s 63 []
 
-no-members : members 0 ≡ []
+pub no-members : members 0 ≡ []
 unfolding members
 no-members = go 63 []
   where
@@ -85,7 +85,7 @@ no-members = go 63 []
     go zero l = refl
     go (suc n) l = rw (member-none (suc n)) (go n l)
 
-closing-two : (v : Version) → length (settlingTold v) ≤ 2
+pub closing-two : (v : Version) → length (settlingTold v) ≤ 2
 unfolding settlingTold closingTold
 closing-two v = go (open? v) (eqb (v .cast .purpose) 1)
   where
