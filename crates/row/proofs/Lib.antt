@@ -1,0 +1,4 @@
+-- The crate's laws.
+pub mod Trues
+pub mod Spelling
+pub mod Layouts
