@@ -2,3 +2,5 @@
 pub mod Trues
 pub mod Spelling
 pub mod Layouts
+pub mod Choices
+pub mod Everys

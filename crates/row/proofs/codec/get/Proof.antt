@@ -1,52 +1,39 @@
+-- `codec::get` meets its contract. Assumes nothing.
 use Rattle.row.specs.Codec.{wordsIn}
 use borrow.Author.Needs.{needs}
 use Rattle.row.proofs.codec.get.Statement.{statement}
 use Rattle.row.proofs.codec.get.Tie as tie
-use Rattle.row.proofs.codec.get.Reads as reads
-use Rattle.row.proofs.codec.get.Lts as lts
-use Rattle.octets.proofs.u64_at.Reads as u64-at-reads
 
--- src/codec.rt:13:9
 u64-at-requires : tie.Need-u64-at-requires
 u64-at-requires c κs = search needs
 
--- src/codec.rt:14:9
 u64-at-requires-2 : tie.Need-u64-at-requires-2
 u64-at-requires-2 c κs = search needs
 
--- src/codec.rt:15:9
 u64-at-requires-3 : tie.Need-u64-at-requires-3
 u64-at-requires-3 c κs = search needs
 
--- src/codec.rt:16:9
 u64-at-requires-4 : tie.Need-u64-at-requires-4
 u64-at-requires-4 c κs = search needs
 
--- src/codec.rt:17:9
 u64-at-requires-5 : tie.Need-u64-at-requires-5
 u64-at-requires-5 c κs = search needs
 
--- src/codec.rt:18:9
 u64-at-requires-6 : tie.Need-u64-at-requires-6
 u64-at-requires-6 c κs = search needs
 
--- src/codec.rt:19:9
 u64-at-requires-7 : tie.Need-u64-at-requires-7
 u64-at-requires-7 c κs = search needs
 
--- src/codec.rt:20:9
 u64-at-requires-8 : tie.Need-u64-at-requires-8
 u64-at-requires-8 c κs = search needs
 
--- src/codec.rt:21:9
 u64-at-requires-9 : tie.Need-u64-at-requires-9
 u64-at-requires-9 c κs = search needs
 
--- src/codec.rt:22:9
 u64-at-requires-10 : tie.Need-u64-at-requires-10
 u64-at-requires-10 c κs = search needs
 
--- src/codec.rt:9:1
 returns : tie.Need-returns
 unfolding wordsIn
 returns c = λ i. record {

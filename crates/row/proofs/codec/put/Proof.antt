@@ -1,25 +1,18 @@
+-- `codec::put` meets its contract. Assumes nothing.
 use Rattle.row.proofs.Spelling.{fill}
 use borrow.Author.Needs.{needs}
 use Rattle.row.proofs.codec.put.Statement.{statement}
 use Rattle.row.proofs.codec.put.Tie as tie
-use Rattle.row.proofs.codec.put.Reads as reads
-use Rattle.row.proofs.codec.put.Lts as lts
-use Rattle.row.proofs.codec.put_first.Reads as put-first-reads
-use Rattle.row.proofs.codec.put_last.Reads as put-last-reads
 
--- src/codec.rt:64:5
 put-first-requires : tie.Need-put-first-requires
 put-first-requires c κs = search needs
 
--- src/codec.rt:65:5
 put-last-requires : tie.Need-put-last-requires
 put-last-requires c κs = search needs
 
--- src/codec.rt:60:1
 same-length : tie.Need-same-length
 same-length c = search needs
 
--- src/codec.rt:60:1
 returns : tie.Need-returns
 returns c =
     let st = c .before .before .before .before .before .before .before .before .before in

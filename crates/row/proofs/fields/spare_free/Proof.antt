@@ -1,11 +1,9 @@
+-- `fields::spare_free` meets its contract. Assumes nothing.
 use Rattle.row.specs.Layout.{spareless}
 use borrow.Author.Needs.{needs}
 use Rattle.row.proofs.fields.spare_free.Statement.{statement}
 use Rattle.row.proofs.fields.spare_free.Tie as tie
-use Rattle.row.proofs.fields.spare_free.Reads as reads
-use Rattle.row.proofs.fields.spare_free.Lts as lts
 
--- src/fields.rt:88:1
 returns : tie.Need-returns
 unfolding spareless
 returns c = search needs
