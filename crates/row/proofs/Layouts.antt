@@ -32,11 +32,11 @@ flag-lt false = refl
 -- ---- the fields fit
 
 module _ (v : Version) (r : Room v) where
-  head-fits : fit headWidths (headFields v) ≡ true
+  pub head-fits : fit headWidths (headFields v) ≡ true
   head-fits =
       simp (lt-ltb (v .id .tn .0) 17179869184 (r .small .tn), lt-ltb (v .id .number) 65536 (r .number), lt-ltb (v .status) 16 (r .small .status), flag-lt (v .live), flag-lt (v .new .created), flag-lt (v .old .created), flag-lt (v .window))
 
-  terms-fit : fit termWidths (termFields v) ≡ true
+  pub terms-fit : fit termWidths (termFields v) ≡ true
   terms-fit =
       simp (lt-ltb (v .new .lrn .0) 17179869184 (r .small .lrn), lt-ltb (v .new .provider) 64 (r .small .new), lt-ltb (v .old .provider) 64 (r .small .old), lt-ltb (v .old .authorization) 4 (r .small .authorization), lt-ltb (v .old .cause) 128 (r .small .cause), lt-ltb (v .canceller) 4 (r .small .canceller), lt-ltb (v .cast .purpose) 4 (r .small .purpose))
 

@@ -4,3 +4,5 @@ pub mod Spelling
 pub mod Layouts
 pub mod Choices
 pub mod Everys
+pub mod Rooms
+pub mod Packs

@@ -2,7 +2,7 @@
 -- Assumes nothing.
 use mathlib.Core.Bool.{Bool, true, false, _&&_}
 use mathlib.Core.List.{List, [], _∷_}
-use Prim.Native.Nat.{ℕ, _^_, _<_}
+use Prim.Native.Nat.{ℕ, _+_, _*_, _^_, _<_}
 use lib.Dec.{eqb}
 use lib.ListN.{getD}
 use Rattle.octets.specs.Fields.{cut, join}
@@ -13,6 +13,7 @@ use Rattle.model.specs.declared.Retries.{Retries}
 use Rattle.model.specs.declared.Broadcast.{Broadcast}
 use Rattle.model.specs.declared.Version.{Version}
 use Rattle.row.specs.declared.Words.{Words}
+use Rattle.row.specs.Codec.{wordsIn, bytesOf}
 
 -- TN, number, status, live, new side created, old side created, window run out, spare
 abbrev pub headWidths : List ℕ
@@ -146,3 +147,15 @@ pub record Room (v : Version) : Type 0 where
   pub low : v .cast .retries .low < 2 ^ 64
   pub mid : v .cast .retries .mid < 2 ^ 64
   pub high : v .cast .retries .high < 2 ^ 64
+
+-- ---- a version and its row's bytes
+
+-- a version's place in the table's order: the highest 50 bits of its row [T2]
+abbrev pub keyOf : Id → ℕ
+keyOf k = k .tn .0 * 65536 + k .number
+
+unfoldable pub pack : Version → List ℕ
+pack v = bytesOf (wordsOf v)
+
+unfoldable pub unpack : List ℕ → Version
+unpack b = versionOf (wordsIn b)
