@@ -2,7 +2,7 @@
 -- Assumes nothing.
 use Prim.Native.Nat.{ℕ, zero, suc, max}
 use mathlib.Core.Bool.{Bool, true, false, cond, _&&_, _||_}
-use mathlib.Core.Option.{Option, none, some}
+use mathlib.Core.Option.{Option, none as nothing, some}
 use mathlib.Core.List.{List, [], _∷_}
 use lib.Dec.{eqb}
 
@@ -32,7 +32,7 @@ keep p (x ∷ xs) = cond (p x) (x ∷ keep p xs) (keep p xs)
 
 -- the first that passes the test
 abbrev pub first : {A : Type 0} → (A → Bool) → List A → Option A
-first p [] = none
+first p [] = nothing
 first p (x ∷ xs) = cond (p x) (some x) (first p xs)
 
 -- the largest value, or 0
@@ -50,9 +50,14 @@ every f (suc n) = every f n && f (suc n)
 
 -- the test holds of what is there
 abbrev pub holds : {A : Type 0} → Option A → (A → Bool) → Bool
-holds none p = false
+holds nothing p = false
 holds (some x) p = p x
 
 abbrev pub isNone : {A : Type 0} → Option A → Bool
-isNone none = true
+isNone nothing = true
 isNone (some x) = false
+
+-- each member has the property
+pub data All {A : Type 0} (P : A → Type 0) : List A → Type 0 where
+  none : All P []
+  with : {x : A} {xs : List A} → P x → All P xs → All P (x ∷ xs)

@@ -7,3 +7,14 @@ pub mod Sound
 pub mod Record
 pub mod Outcomes
 pub mod Selection
+pub mod Given
+pub mod Tray
+pub mod Standing
+pub mod Creates
+pub mod Changes
+pub mod Closing
+pub mod Broadcast
+pub mod Answers
+pub mod Refusals
+pub mod Step
+pub mod Exchange

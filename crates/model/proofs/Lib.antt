@@ -1,0 +1,15 @@
+pub mod Lists
+pub mod Order
+pub mod TableLaws
+pub mod Places
+pub mod Exchanges
+pub mod Apart
+pub mod Locality
+pub mod Digits
+pub mod Arrivals
+pub mod Formed
+pub mod Replies
+pub mod SoundRows
+pub mod SoundSets
+pub mod SoundCasts
+pub mod SoundAnswers

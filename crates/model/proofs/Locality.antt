@@ -1,0 +1,206 @@
+-- The rules are local: each answer keeps to the event's number. The proof has the shape of the rules.
+-- Assumes nothing.
+use mathlib.Core.Path.{_≡_, refl, sym, ap, _∙_, subst}
+use Prim.Native.Nat.{ℕ, zero, suc, _+_, _≤_}
+use mathlib.Core.Bool.{Bool, true, false, cond, not, _&&_}
+use mathlib.Core.Option.{Option, none as nothing, some}
+use mathlib.Core.List.{List, [], _∷_, _++_, map}
+use lib.Dec.{eqb}
+use native.Mathlib.Omega.{arith}
+use Rattle.model.specs.Basics.{keep, first, among, All, none, with}
+use Rattle.model.specs.Books.{Books, lineOf}
+use Rattle.model.specs.Table.{Change, put, add, strike, find, others, notNamed, adds, nameOf}
+use Rattle.model.specs.Sound.{live, worked}
+use Rattle.model.specs.Record.{isCreate, isAnswer, isBroadcast, wellFormed}
+use Rattle.model.specs.Outcomes.{isDone, judge, orderOf}
+use Rattle.model.specs.Selection.{selectedFor}
+use Rattle.model.specs.Given.{Given, Result, refuse, accept, unless, nameIn, found, rest, workedOne}
+use Rattle.model.specs.Tray.{toSoas, message, sidesTold, members, downloads, downloadTo, statusTold, attributesTold, restatedTold, createdTold, windowTold, toldAtClose}
+use Rattle.model.specs.Creates.{creates, createOn, freshVersion, concurred}
+use Rattle.model.specs.Changes.{modifies, modified, newModified, oldModified, turns, turned, cancelled, acknowledged, resolved, windowRuns, windowMarked, windowTurned, marks}
+use Rattle.model.specs.Closing.{open?, closed, retired, retiring, retires, takesOver, closingTold, settled, settles, settlingTold}
+use Rattle.model.specs.Broadcast.{opened, broadcastOf, broadcasts}
+use Rattle.model.specs.Answers.{answers, heard, askedAgain, again, answering}
+use Rattle.model.specs.Refusals.{refuses}
+use Rattle.model.specs.Step.{whenFound, purges, manages, accepted, rule, Setting, line}
+use Rattle.model.proofs.Lists.{all-cond, all-append, all-map, all-any, all-keep, all-first}
+use Rattle.model.proofs.TableLaws.{find-name}
+use Rattle.model.proofs.Apart.{Rule, Near, About, Rows, Fine, Local}
+use Rattle.model.specs.declared.Id.{Id}
+use Rattle.model.specs.declared.Lrn.{Lrn}
+use Rattle.model.specs.declared.Version.{Version}
+use Rattle.model.specs.declared.Event.{Event}
+use Rattle.model.specs.declared.Message.{Message}
+use Rattle.model.specs.declared.Outcome.{Outcome}
+use Rattle.model.specs.declared.Outcome.the-variants.{Unknown, Malformed, Done}
+
+-- the rules of a setting; fields that are malformed are refused
+abbrev pub ruleIn : Setting → Rule
+ruleIn s free e r =
+    cond (wellFormed e) (rule (record { books = s .books; most = s .most; free = free; event = e; rows = r })) (refuse Malformed)
+
+adds-puts : (f : Version → Version) (l : List Version) → adds (map (λ (w : Version). put (f w)) l) ≡ 0
+adds-puts f [] = refl
+adds-puts f (a ∷ l) = rw (adds-puts f l)
+
+module _ (lineOf : ℕ → ℕ) (l : ℕ) where
+  fine-refuse : (o : Outcome) → Fine lineOf l (refuse o)
+  fine-refuse o = record { near = none; about = none; grows = omega arith }
+
+  fine-cond : (b : Bool) {x y : Result} → Fine lineOf l x → Fine lineOf l y → Fine lineOf l (cond b x y)
+  fine-cond true h k = h
+  fine-cond false h k = k
+
+  fine-found : (o : Option Version) (f : Version → Result) → ((v : Version) → o ≡ some v → Fine lineOf l (f v)) → Fine lineOf l (whenFound o f)
+  fine-found nothing f h = fine-refuse Unknown
+  fine-found (some v) f h = h v refl
+
+  abbrev In : Version → Type 0
+  In v = lineOf (v .id .tn .0) ≡ l
+
+  abbrev Mail : List Message → Type 0
+  Mail ms = About lineOf l ms
+
+  in-cond : (b : Bool) (v w : Version) → In v → In w → In (cond b v w)
+  in-cond true v w h k = h
+  in-cond false v w h k = k
+
+  fine-put : {w : Version} {ms : List Message} → In w → Mail ms → Fine lineOf l (accept ms (put w ∷ []))
+  fine-put h k = record { near = with h none; about = k; grows = omega arith }
+
+  fine-add : {w : Version} {ms : List Message} → In w → Mail ms → Fine lineOf l (accept ms (add w ∷ []))
+  fine-add h k = record { near = with h none; about = k; grows = omega arith }
+
+  fine-strike : {k : Id} → lineOf (k .tn .0) ≡ l → Fine lineOf l (accept [] (strike k ∷ []))
+  fine-strike h = record { near = with h none; about = none; grows = omega arith }
+
+  -- ---- what is told of a version is about its number
+  mail-soas : (v : Version) (sort failed : ℕ) (lrn : Lrn) (ps : List ℕ) → In v → Mail (toSoas v sort failed lrn ps)
+  mail-soas v sort failed lrn ps h = all-map (λ (p : ℕ). Unit {0}) (λ (p : ℕ). message v false sort failed p lrn) (all-any ps) (λ p u. h)
+
+  mail-restated : (v w : Version) → In w → Mail (restatedTold v w)
+  mail-restated v w h =
+      all-append (all-cond (eqb (v .status) (w .status)) none (mail-soas w _ _ _ (sidesTold w) h)) (mail-soas w _ _ _ (sidesTold w) h)
+
+  fine-turns : (w : Version) → In w → Fine lineOf l (turns w)
+  fine-turns w h = fine-put h (mail-soas w _ _ _ (sidesTold w) h)
+
+  -- ---- what settles
+  mail-settling : (v : Version) → In v → Mail (settlingTold v)
+  unfolding settlingTold closingTold closed
+  mail-settling v h = all-cond (open? v) none (mail-soas (closed v) _ _ _ (toldAtClose v) h)
+
+  in-settled : (v : Version) → In v → In (settled v)
+  unfolding settled closed
+  in-settled v h = in-cond (open? v) v (closed v) h h
+
+  near-settles : (v : Version) (others : List Version) → Rows lineOf l others → Near lineOf l (settles v others)
+  unfolding settles retires retired
+  near-settles v others h =
+      all-cond (open? v) none (all-cond (takesOver v) (all-map In (retiring v) (all-keep live h) (λ a q. q)) none)
+
+  adds-settles : (v : Version) (others : List Version) → adds (settles v others) ≡ 0
+  unfolding settles retires
+  adds-settles v others = go (open? v) (takesOver v)
+    where
+      go : (b c : Bool) → adds (cond b [] (cond c (map (retiring v) (keep live others)) [])) ≡ 0
+      go true c = refl
+      go false true = adds-puts (retired (v .stamp)) (keep live others)
+      go false false = refl
+
+  fine-settles : (v : Version) (others : List Version) (ms : List Message) → In v → Rows lineOf l others → Mail ms
+      → Fine lineOf l (accept (ms ++ settlingTold v) (put (settled v) ∷ settles v others))
+  fine-settles v others ms h k m = record {
+        near = with (in-settled v h) (near-settles v others k);
+        about = all-append m (mail-settling v h);
+        grows = omega (arith, adds-settles v others);
+      }
+
+-- ---- kind by kind
+module _ (lineOf : ℕ → ℕ) (e : Event) where
+  abbrev L : ℕ
+  L = lineOf (e .tn .0)
+
+  abbrev Own : Version → Type 0
+  Own v = lineOf (v .id .tn .0) ≡ L
+
+  named : (r : List Version) (v : Version) → find (nameIn e) r ≡ some v → Own v
+  named r v h = ap (λ (k : Id). lineOf (k .tn .0)) (find-name (nameIn e) r v h)
+
+  fine-answers : (most : ℕ) (v : Version) (others : List Version) → Own v → Rows lineOf L others → Fine lineOf L (answers most e v others)
+  unfolding answers heard askedAgain
+  fine-answers most v others h k =
+      fine-settles lineOf L (heard most e v) others (askedAgain most e v) h k (all-cond (again most e (v .cast)) (with h none) none)
+
+  fine-creates : (r : List Version) → Rows lineOf L r → Fine lineOf L (creates e r)
+  unfolding creates freshVersion concurred
+  fine-creates r h = go (workedOne r) (λ v q. all-first worked v h q)
+    where
+      go : (o : Option Version) → ((v : Version) → o ≡ some v → Own v) → Fine lineOf L (createOn e r o)
+      go nothing w = fine-add lineOf L refl (mail-soas lineOf L (freshVersion e r) _ _ _ (sidesTold (freshVersion e r)) refl)
+      go (some v) w = fine-put lineOf L (w v refl) (mail-restated lineOf L v (concurred e v) (w v refl))
+
+  fine-modifies : (v : Version) → Own v → Fine lineOf L (modifies e v)
+  unfolding newModified oldModified
+  fine-modifies v h =
+      let own : Own (modified e v) = in-cond lineOf L (eqb (e .kind) 3) (newModified e v) (oldModified e v) h h in
+      fine-put lineOf L own (mail-restated lineOf L v (modified e v) own)
+
+  fine-cancelled : (v : Version) → Own v → Fine lineOf L (turns (cancelled e v))
+  unfolding cancelled
+  fine-cancelled v h = fine-turns lineOf L (cancelled e v) (in-cond lineOf L (v .new .created && v .old .created) _ _ h h)
+
+  fine-acknowledged : (v : Version) → Own v → Fine lineOf L (turns (acknowledged e v))
+  unfolding acknowledged
+  fine-acknowledged v h = fine-turns lineOf L (acknowledged e v) h
+
+  fine-resolved : (v : Version) → Own v → Fine lineOf L (turns (resolved e v))
+  unfolding resolved
+  fine-resolved v h = fine-turns lineOf L (resolved e v) h
+
+  fine-marked : (v : Version) → Own v → Fine lineOf L (accept (windowTold (windowMarked e v)) (put (windowMarked e v) ∷ []))
+  unfolding windowMarked
+  fine-marked v h = fine-put lineOf L h (mail-soas lineOf L (windowMarked e v) _ _ _ (v .old .provider ∷ []) h)
+
+  fine-window : (v : Version) → Own v → Fine lineOf L (windowRuns e v)
+  unfolding windowRuns windowTurned
+  fine-window v h =
+      fine-cond lineOf L (marks v) (fine-marked v h)
+      (fine-turns lineOf L (windowTurned e v) (in-cond lineOf L (eqb (v .status) 2) _ _ h h))
+
+  fine-broadcasts : (bk : Books) (v : Version) (others : List Version) → Own v → Rows lineOf L others → Fine lineOf L (broadcasts bk e v others)
+  unfolding broadcasts opened
+  fine-broadcasts bk v others h k =
+      let w : Version = opened (selectedFor bk (v .id .tn .0)) e v in
+      fine-settles lineOf L w others (downloads w) h k
+      (all-map (λ (p : ℕ). Unit {0}) (downloadTo w) (all-any (members (w .cast .waiting))) (λ a q. h))
+
+  fine-manages : (bk : Books) (v : Version) (others : List Version) → Own v → Rows lineOf L others → Fine lineOf L (manages bk e v others)
+  unfolding manages
+  fine-manages bk v others h k =
+      fine-cond lineOf L (among (e .kind) (3 ∷ 4 ∷ [])) (fine-modifies v h)
+      (fine-cond lineOf L (eqb (e .kind) 6) (fine-cancelled v h)
+      (fine-cond lineOf L (eqb (e .kind) 7) (fine-acknowledged v h)
+      (fine-cond lineOf L (eqb (e .kind) 8) (fine-resolved v h)
+      (fine-cond lineOf L (eqb (e .kind) 13) (fine-window v h)
+      (fine-cond lineOf L (isBroadcast (e .kind)) (fine-broadcasts bk v others h k) (fine-strike lineOf L h))))))
+
+pub fine-accepted : (lineOf : ℕ → ℕ) (g : Given) → Rows lineOf (lineOf (g .event .tn .0)) (g .rows) → Fine lineOf (lineOf (g .event .tn .0)) (accepted g)
+unfolding accepted
+fine-accepted lineOf g h =
+    let e : Event = g .event in
+    let l : ℕ = lineOf (e .tn .0) in
+    let others-in : Rows lineOf l (rest g) = all-keep (λ (w : Version). notNamed (nameIn e) (w .id)) h in
+    fine-cond lineOf l (isCreate (e .kind)) (fine-creates lineOf e (g .rows) h)
+    (fine-cond lineOf l (isAnswer (e .kind))
+    (fine-found lineOf l (found g) _ (λ v q. fine-answers lineOf e (g .most) v (rest g) (named lineOf e (g .rows) v q) others-in))
+    (fine-found lineOf l (found g) _ (λ v q. fine-manages lineOf e (g .books) v (rest g) (named lineOf e (g .rows) v q) others-in)))
+
+pub local : (lineOf : ℕ → ℕ) (s : Setting) → Local lineOf (ruleIn s)
+unfolding rule
+local lineOf s free e r h =
+    let g : Given = record { books = s .books; most = s .most; free = free; event = e; rows = r } in
+    let l : ℕ = lineOf (e .tn .0) in
+    fine-cond lineOf l (wellFormed e)
+    (fine-cond lineOf l (isDone (judge (refuses g) (orderOf (e .kind)))) (fine-accepted lineOf g h) (fine-refuse lineOf l _))
+    (fine-refuse lineOf l Malformed)

@@ -1,0 +1,58 @@
+-- Standing and status: the grid, and the finer conditions.
+-- Assumes nothing.
+use Prim.Native.Nat.{ℕ}
+use mathlib.Core.Bool.{Bool, true, false, cond, not, _&&_, _||_}
+use mathlib.Core.List.{List, [], _∷_}
+use lib.Dec.{eqb, leb}
+use Rattle.model.specs.Basics.{among}
+use Rattle.model.specs.Sound.{pending, conflict, cancelPending, failure, partialFailure, active, old, canceled}
+use Rattle.model.specs.declared.Event.{Event}
+use Rattle.model.specs.declared.Version.{Version}
+
+-- A side has standing if it has created. 0 the new side, 1 the old side, 2 the NPAC, 3 any other sender. [G1]
+unfoldable pub standingOf : Event → Version → ℕ
+standingOf e v =
+    cond (eqb (e .sender) 0) 2
+    (cond (v .new .created && eqb (e .sender) (v .new .provider)) 0
+    (cond (v .old .created && eqb (e .sender) (v .old .provider)) 1 3))
+
+-- Kinds 3, 5, 9, 10: new; 4: old; 6, 7, 8: either; 13, 14, 15: NPAC. [G1]
+abbrev pub standsFor : ℕ → ℕ → Bool
+standsFor k w =
+    cond (among k (3 ∷ 5 ∷ 9 ∷ 10 ∷ [])) (eqb w 0)
+    (cond (eqb k 4) (eqb w 1)
+    (cond (among k (6 ∷ 7 ∷ 8 ∷ [])) (leb w 1)
+    (eqb w 2)))
+
+-- Statuses: 3, 4, 6 in pending or conflict; 5 pending; 7 cancel-pending; 8 conflict; 9, 10 active; 13 pending or cancel-pending; 14 failed,
+-- partial-failure or active; 15 old or canceled. [G2]
+abbrev pub statusFor : ℕ → ℕ → Bool
+statusFor k s =
+    cond (among k (3 ∷ 4 ∷ 6 ∷ [])) (among s (pending ∷ conflict ∷ []))
+    (cond (eqb k 5) (eqb s pending)
+    (cond (eqb k 7) (eqb s cancelPending)
+    (cond (eqb k 8) (eqb s conflict)
+    (cond (among k (9 ∷ 10 ∷ [])) (eqb s active)
+    (cond (eqb k 13) (among s (pending ∷ cancelPending ∷ []))
+    (cond (eqb k 14) (among s (failure ∷ partialFailure ∷ active ∷ []))
+    (among s (old ∷ canceled ∷ []))))))))
+
+-- The grid: 6 wherever the standing is wrong, else 7 wherever the status is, else 0. [G2, H6]
+unfoldable pub gridRule : ℕ → ℕ → ℕ → ℕ
+gridRule s k w = cond (standsFor k w) (cond (statusFor k s) 0 7) 6
+
+-- The finer conditions that add 7: 5 where neither the old side has created nor its window ran out; 9 and 10 where failed is not empty; 14 on
+-- active where failed is empty. [G3]
+unfoldable pub unready : Event → Version → Bool
+unready e v =
+    cond (eqb (e .kind) 5) (not (v .old .created || v .window))
+    (cond (among (e .kind) (9 ∷ 10 ∷ [])) (not (eqb (v .cast .failed) 0))
+    (eqb (e .kind) 14 && eqb (v .status) active && eqb (v .cast .failed) 0))
+
+-- the sender lacks the standing
+abbrev pub lacksStanding : Event → Version → Bool
+lacksStanding e v = eqb (gridRule (v .status) (e .kind) (standingOf e v)) 6
+
+-- the status does not allow it
+abbrev pub wrongStatus : Event → Version → Bool
+wrongStatus e v = eqb (gridRule (v .status) (e .kind) (standingOf e v)) 7 || unready e v
