@@ -1,0 +1,5 @@
+pub mod Place
+pub mod Chunks
+pub mod Table
+pub mod Join
+pub mod Sound
