@@ -3,3 +3,9 @@ pub mod Lists
 pub mod Moves
 pub mod Pieces
 pub mod Places
+pub mod Joins
+pub mod Admits
+pub mod Sounds
+pub mod Tables
+pub mod Scans
+pub mod Counted
