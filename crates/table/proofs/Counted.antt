@@ -21,7 +21,7 @@ use Rattle.table.specs.Sound.{itself}
 use Rattle.table.proofs.Sounds.{AllSound, RisingFrom, number-lt}
 
 -- 1 where the test holds of a version of that number
-abbrev one : Bool → Bool → ℕ
+abbrev pub one : Bool → Bool → ℕ
 one true true = 1
 one true false = 0
 one false b = 0

@@ -9,3 +9,6 @@ pub mod Sounds
 pub mod Tables
 pub mod Scans
 pub mod Counted
+pub mod Meant
+pub mod Finds
+pub mod Sought

@@ -3,3 +3,4 @@ pub mod Chunks
 pub mod Table
 pub mod Join
 pub mod Sound
+pub mod Find
