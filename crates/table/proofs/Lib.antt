@@ -12,3 +12,4 @@ pub mod Counted
 pub mod Meant
 pub mod Finds
 pub mod Sought
+pub mod Surveys

@@ -4,3 +4,4 @@ pub mod Table
 pub mod Join
 pub mod Sound
 pub mod Find
+pub mod Survey

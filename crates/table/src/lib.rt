@@ -3,3 +3,4 @@ pub mod find;
 pub mod join;
 pub mod rows;
 pub mod scan;
+pub mod survey;
