@@ -13,3 +13,6 @@ pub mod Meant
 pub mod Finds
 pub mod Sought
 pub mod Surveys
+pub mod Numbered
+pub mod Changed
+pub mod Told

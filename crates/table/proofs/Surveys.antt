@@ -42,7 +42,7 @@ sum-done k vs i to s e = ap (λ (j : ℕ). sumOver k s i (slice j to vs)) e ∙ 
 -- ---- the parts of a sum are sums of their own
 
 -- the versions that pass q
-abbrev partOver : (Version → Bool) → Part → ℕ → List Version → Part
+abbrev pub partOver : (Version → Bool) → Part → ℕ → List Version → Part
 partOver q p i [] = p
 partOver q p i (v ∷ vs) = partOver q (partWith (q v) p i v) (i + 1) vs
 

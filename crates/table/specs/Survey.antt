@@ -119,3 +119,10 @@ pub record Surveyed (t : List Version) (k : Id) (f : Facts) : Type 0 where
   pub rest : Summed t (f .rest) (others k (rowsOf itself (k .tn .0) t))
   pub worked : Found t (f .worked) (first worked (rowsOf itself (k .tn .0) t))
   pub asked : Found t (f .asked) (find k (rowsOf itself (k .tn .0) t))
+
+-- each place of a sum is a place of n versions
+pub record Placed (s : Sum) (n : ℕ) : Type 0 where
+  pub all : Within (s .all .live) n
+  pub rest : Within (s .rest .live) n
+  pub worked : Within (s .worked) n
+  pub asked : Within (s .asked) n

@@ -9,7 +9,7 @@ ghost use Prim.Native.Nat.{_+_, _*_, _≤_, _<_, max};
 ghost use lib.Seq.{slice};
 ghost use Rattle.table.specs.Table.{decode};
 ghost use Rattle.table.specs.Sound.{SoundTable};
-ghost use Rattle.table.specs.Survey.{firstBy, partWith, sumWith, sumOver, Within, seenAt};
+ghost use Rattle.table.specs.Survey.{firstBy, partWith, sumWith, sumOver, nothing, noSum, Within, seenAt, summaryBy, factsBy, Placed, Surveyed};
 
 // The place of the first version that passed a test.
 pub enum Spot {
@@ -132,4 +132,76 @@ fn look(t: &[u8], n: usize, s: Spot) -> Seen
         Spot::At(i) => Seen::One(i, rows::load(t, i)),
         Spot::Nowhere => Seen::Nobody,
     }
+}
+
+fn part_shown(t: &[u8], n: usize, p: Part) -> Summary
+    requires { ⌜ SoundTable (now t) n ⌝ }
+    requires { ⌜ Within (p .live) n ⌝ }
+    ensures { λ r. ⌜ r ≡ summaryBy (decode (now (t .entry))) p ⌝ }
+{
+    let spot = p.live;
+    let live = look(t, n, spot);
+    Summary {
+        newest: p.newest,
+        stamp: p.stamp,
+        sends: p.sends,
+        live,
+    }
+}
+
+fn shown(t: &[u8], n: usize, s: Sum) -> Facts
+    requires { ⌜ SoundTable (now t) n ⌝ }
+    requires { ⌜ Placed s n ⌝ }
+    ensures { λ r. ⌜ r ≡ factsBy (decode (now (t .entry))) s ⌝ }
+{
+    let part = s.all;
+    let other = s.rest;
+    let work = s.worked;
+    let ask = s.asked;
+    let all = part_shown(t, n, part);
+    let rest = part_shown(t, n, other);
+    let worked = look(t, n, work);
+    let asked = look(t, n, ask);
+    Facts {
+        all,
+        rest,
+        worked,
+        asked,
+    }
+}
+
+fn none() -> Part
+    ensures { λ r. ⌜ r ≡ nothing ⌝ }
+{
+    Part {
+        newest: 0,
+        stamp: 0,
+        sends: false,
+        live: Spot::Nowhere,
+    }
+}
+
+fn empty() -> Sum
+    ensures { λ r. ⌜ r ≡ noSum ⌝ }
+{
+    let all = none();
+    let rest = none();
+    Sum {
+        all,
+        rest,
+        worked: Spot::Nowhere,
+        asked: Spot::Nowhere,
+    }
+}
+
+// What the versions of k's number have together, with the version of that name and the others.
+pub fn number(t: &[u8], n: usize, k: Id) -> Facts
+    requires { ⌜ SoundTable (now t) n ⌝ }
+    requires { ⌜ k .tn .0 < 17179869184 ⌝ }
+    ensures { λ r. ⌜ Surveyed (decode (now (t .entry))) k r ⌝ }
+{
+    let from = find::from_key(t, n, k.tn.0 * 65536);
+    let to = find::from_key(t, n, (k.tn.0 + 1) * 65536);
+    let s = over(t, n, empty(), k, from, to);
+    shown(t, n, s)
 }
