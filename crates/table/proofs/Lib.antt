@@ -16,3 +16,5 @@ pub mod Surveys
 pub mod Numbered
 pub mod Changed
 pub mod Told
+pub mod Steps
+pub mod Asked

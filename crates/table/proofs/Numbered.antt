@@ -94,7 +94,7 @@ place-up (v ∷ vs) j k h = go (ltb (keyFor v) j) (ltb (keyFor v) k) refl refl (
 
 -- ---- names
 
-named-is : (k : Id) (v : Version) → named k v ≡ true → v .id ≡ k
+pub named-is : (k : Id) (v : Version) → named k v ≡ true → v .id ≡ k
 named-is k v e =
     let w = both (eqb (v .id .tn .0) (k .tn .0)) (eqb (v .id .number) (k .number)) e in
     λ i. record { tn = record { 0 = eqb-true (v .id .tn .0) (k .tn .0) (w .0) i }; number = eqb-true (v .id .number) (k .number) (w .1) i }
