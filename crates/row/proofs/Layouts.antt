@@ -13,7 +13,7 @@ use Rattle.octets.specs.Fields.{cut, join, fit, join-lt, join-cut, cut-join}
 use Rattle.model.specs.declared.Version.{Version}
 use Rattle.row.specs.declared.Words.{Words}
 use Rattle.row.specs.Layout.{headWidths, termWidths, pairWidths, flag, marked, field, versionOf, spareless, headFields, termFields, dueFields, timeFields, wordsOf, Small, Room}
-use Rattle.row.proofs.Trues.{both}
+use Rattle.model.proofs.Lists.{and-l, and-r}
 use Rattle.row.proofs.Spelling.{Fit64}
 
 marked-flag : (b : Bool) → marked (flag b) ≡ b
@@ -100,7 +100,7 @@ module _ (w : Words) (f : Fit64 w) (s : spareless w ≡ true) where
   head-fields : headFields (versionOf w) ≡ cut headWidths (w .head)
   unfolding versionOf spareless
   head-fields =
-      let z : field headWidths 7 (w .head) ≡ 0 = eqb-true _ _ (both (eqb (field headWidths 7 (w .head)) 0) (eqb (field termWidths 7 (w .terms)) 0) s .0) in
+      let z : field headWidths 7 (w .head) ≡ 0 = eqb-true _ _ (and-l (eqb (field headWidths 7 (w .head)) 0) (eqb (field termWidths 7 (w .terms)) 0) s) in
       let b : (k : ℕ) → flag (marked (k % 2)) ≡ k % 2 = λ k. flag-marked (k % 2) (mod-lt k (lit< tt)) in
       λ i.
       w .head / 2 ^ 30 % 2 ^ 34 ∷ w .head / 2 ^ 14 % 2 ^ 16 ∷ w .head / 2 ^ 10 % 2 ^ 4 ∷ b (w .head / 2 ^ 9) i ∷ b (w .head / 2 ^ 8) i
@@ -109,7 +109,7 @@ module _ (w : Words) (f : Fit64 w) (s : spareless w ≡ true) where
   term-fields : termFields (versionOf w) ≡ cut termWidths (w .terms)
   unfolding versionOf spareless
   term-fields =
-      let z : field termWidths 7 (w .terms) ≡ 0 = eqb-true _ _ (both (eqb (field headWidths 7 (w .head)) 0) (eqb (field termWidths 7 (w .terms)) 0) s .1) in
+      let z : field termWidths 7 (w .terms) ≡ 0 = eqb-true _ _ (and-r (eqb (field headWidths 7 (w .head)) 0) (eqb (field termWidths 7 (w .terms)) 0) s) in
       λ i.
       w .terms / 2 ^ 30 % 2 ^ 34 ∷ w .terms / 2 ^ 24 % 2 ^ 6 ∷ w .terms / 2 ^ 18 % 2 ^ 6 ∷ w .terms / 2 ^ 16 % 2 ^ 2 ∷ w .terms / 2 ^ 9 % 2 ^ 7
       ∷ w .terms / 2 ^ 7 % 2 ^ 2 ∷ w .terms / 2 ^ 5 % 2 ^ 2 ∷ sym z i ∷ []

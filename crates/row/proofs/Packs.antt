@@ -2,7 +2,7 @@
 -- Assumes nothing.
 use mathlib.Core.Path.{_≡_, refl, sym, ap, _∙_, subst}
 use mathlib.Core.Bool.{Bool, true, false, _&&_}
-use mathlib.Core.List.{List, [], _∷_}
+use mathlib.Core.List.{List, _++_, map}
 use Prim.Native.Nat.{ℕ, _+_, _*_, _/_, _%_, _^_, _≤_, _<_}
 use native.Mathlib.Nat.{ne-of-gt}
 use native.Mathlib.Omega.{arith}
@@ -13,11 +13,11 @@ use Rattle.octets.specs.Octets.{Bytes}
 use Rattle.octets.specs.Fields.{cut, join, cut-join}
 use Rattle.model.specs.declared.Version.{Version}
 use Rattle.model.specs.Sound.{soundVersion}
+use Rattle.model.proofs.Lists.{conj-at}
 use Rattle.row.specs.declared.Words.{Words}
 use Rattle.row.specs.Size.{ROW}
-use Rattle.row.specs.Codec.{wordsIn, bytesOf, isBlank, noWords, blank}
+use Rattle.row.specs.Codec.{wordsIn, firstOf, lastOf, bytesOf, isBlank, noWords, blank}
 use Rattle.row.specs.Layout.{headWidths, termWidths, field, versionOf, spareless, headFields, termFields, wordsOf, Small, Room, keyOf, pack, unpack}
-use Rattle.row.proofs.Trues.{Trues, chain-true}
 use Rattle.row.proofs.Spelling.{Fit64, bytes-length, words-bytes, bytes-words, words-fit, none-blank, blank-none}
 use Rattle.row.proofs.Layouts.{head-fits, terms-fit, room-fits, version-words, words-version}
 use Rattle.row.proofs.Rooms.{sound-room, sound-tn}
@@ -55,18 +55,18 @@ pack-spareless v r =
 pub blank-is : (w : Words) → isBlank w ≡ true → w ≡ noWords
 unfolding isBlank
 blank-is w e =
-    let t = chain-true (eqb (w .head) 0) (eqb (w .terms) 0 ∷ eqb (w .dues) 0 ∷ eqb (w .times) 0 ∷ eqb (w .confirmed) 0 ∷ eqb (w .waiting) 0 ∷ eqb (w .failed) 0 ∷ eqb (w .low) 0 ∷ eqb (w .mid) 0 ∷ eqb (w .high) 0 ∷ []) e in
+    let z : (i : ℕ) → getD (map (λ (x : ℕ). eqb x 0) (firstOf w ++ lastOf w)) i true ≡ true = conj-at (map (λ (x : ℕ). eqb x 0) (firstOf w ++ lastOf w)) e in
     λ i. record {
-      head = eqb-true (w .head) 0 (t .0) i;
-      terms = eqb-true (w .terms) 0 (t .1 .0) i;
-      dues = eqb-true (w .dues) 0 (t .1 .1 .0) i;
-      times = eqb-true (w .times) 0 (t .1 .1 .1 .0) i;
-      confirmed = eqb-true (w .confirmed) 0 (t .1 .1 .1 .1 .0) i;
-      waiting = eqb-true (w .waiting) 0 (t .1 .1 .1 .1 .1 .0) i;
-      failed = eqb-true (w .failed) 0 (t .1 .1 .1 .1 .1 .1 .0) i;
-      low = eqb-true (w .low) 0 (t .1 .1 .1 .1 .1 .1 .1 .0) i;
-      mid = eqb-true (w .mid) 0 (t .1 .1 .1 .1 .1 .1 .1 .1 .0) i;
-      high = eqb-true (w .high) 0 (t .1 .1 .1 .1 .1 .1 .1 .1 .1 .0) i;
+      head = eqb-true (w .head) 0 (z 0) i;
+      terms = eqb-true (w .terms) 0 (z 1) i;
+      dues = eqb-true (w .dues) 0 (z 2) i;
+      times = eqb-true (w .times) 0 (z 3) i;
+      confirmed = eqb-true (w .confirmed) 0 (z 4) i;
+      waiting = eqb-true (w .waiting) 0 (z 5) i;
+      failed = eqb-true (w .failed) 0 (z 6) i;
+      low = eqb-true (w .low) 0 (z 7) i;
+      mid = eqb-true (w .mid) 0 (z 8) i;
+      high = eqb-true (w .high) 0 (z 9) i;
     }
 
 pub blank-row : (b : List ℕ) → length b ≡ ROW → Bytes b → isBlank (wordsIn b) ≡ true → b ≡ blank

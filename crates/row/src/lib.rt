@@ -1,10 +1,6 @@
-// A version as a row of bytes: ten big-endian words (docs/LAYOUTS.md), and the test whether a version is sound.
-pub mod cast;
+// A version as a row of bytes: ten big-endian words (docs/LAYOUTS.md).
 pub mod codec;
 pub mod fields;
-pub mod ranges;
-pub mod sides;
-pub mod sound;
 
 // The size of a row in bytes.
 pub const ROW: usize = 80;

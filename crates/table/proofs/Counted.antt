@@ -15,7 +15,7 @@ use Rattle.model.specs.Basics.{all, keep}
 use Rattle.model.specs.Table.{rowsOf}
 use Rattle.model.specs.Sound.{count}
 use Rattle.row.specs.Layout.{keyOf}
-use Rattle.row.proofs.Trues.{both}
+use Rattle.model.proofs.Lists.{and-l, and-r}
 use Rattle.table.specs.Join.{second, either}
 use Rattle.table.specs.Sound.{itself}
 use Rattle.table.proofs.Sounds.{AllSound, RisingFrom, number-lt}
@@ -40,10 +40,7 @@ sum-le true false false h = omega arith
 sum-le false f x h = omega arith
 
 either-le : (c d s f x : Bool) → (s ≡ true → c ≡ d) → one c (either s f x) ≤ one c x + one d f
-either-le c d true true x h = rw (h refl) (omega (arith, one-le d (true || x), top d))
-  where
-    top : (d : Bool) → one d true ≡ one d (true || x)
-    top d = refl
+either-le c d true true x h = rw (h refl) (omega arith)
 either-le c d true false x h = omega arith
 either-le c d false f x h = omega arith
 
@@ -152,8 +149,7 @@ module _ (p : Version → Bool) where
   each-named : (t vs : List Version) (n : ℕ) → all (oneOf t) vs ≡ true → (tally n vs ≡ 0) ⊎ (tally n t ≤ 1)
   each-named t [] n h = inl refl
   each-named t (v ∷ vs) n h =
-      let w = both (oneOf t v) (all (oneOf t) vs) h in
-      ⊎-elim (go (eqb (v .id .tn .0) n) refl (w .0)) inr (each-named t vs n (w .1))
+      ⊎-elim (go (eqb (v .id .tn .0) n) refl (and-l (oneOf t v) (all (oneOf t) vs) h)) inr (each-named t vs n (and-r (oneOf t v) (all (oneOf t) vs) h))
     where
       go : (b : Bool) → eqb (v .id .tn .0) n ≡ b → oneOf t v ≡ true → tally n vs ≡ 0 → (tally n (v ∷ vs) ≡ 0) ⊎ (tally n t ≤ 1)
       go true e o z =

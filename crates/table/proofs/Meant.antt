@@ -7,15 +7,15 @@ use Prim.Native.Nat.{ℕ, zero, suc, _+_, _*_, _/_, _%_, _≤_, _<_}
 use native.Mathlib.Omega.{arith}
 use borrow.Author.Tests.{eq-eqb, lt-ltb, le-leb, eqb-true, ltb-true, leb-true, not-true}
 use lib.Dec.{eqb, ltb, leb}
-use lib.ListN.{length}
+use lib.ListN.{length, getD}
 use Rattle.octets.specs.Octets.{Bytes}
 use Rattle.model.specs.declared.Version.{Version}
-use Rattle.model.specs.Basics.{all}
 use Rattle.model.specs.Table.{rowsOf}
 use Rattle.model.specs.Sound.{count, live, sends, worked, oneEach, rising, soundVersion, soundLines, soundTable}
 use Rattle.row.specs.Size.{ROW}
 use Rattle.row.specs.Layout.{keyOf}
-use Rattle.row.proofs.Trues.{Trues, both, chain-true, true-chain}
+use Rattle.model.specs.Basics.{all, none, with}
+use Rattle.model.proofs.Lists.{and-l, and-r, both-true, conj-at, conj-all}
 use Rattle.table.specs.declared.join.Group.{Group}
 use Rattle.table.specs.declared.scan.Scan.{Scan}
 use Rattle.table.specs.declared.scan.Scan.the-variants.{Bad, Open, Ended}
@@ -37,10 +37,10 @@ pub record Parts (g : Group) (vs : List Version) : Type 0 where
   pub sent : Flags sends (g .last / 65536) (g .sends) vs
   pub work : Flags worked (g .last / 65536) (g .worked) vs
 
--- the tests after the first, in their order
-abbrev seconds : Group → Version → List Bool
-seconds g v =
-    not (second (same (g .last) v) (g .live) (live v)) ∷ not (second (same (g .last) v) (g .sends) (sends v))
+-- the tests of `follows`, in their order
+abbrev tested : Group → Version → List Bool
+tested g v =
+    ltb (g .last) (keyOf (v .id)) ∷ not (second (same (g .last) v) (g .live) (live v)) ∷ not (second (same (g .last) v) (g .sends) (sends v))
     ∷ not (second (same (g .last) v) (g .worked) (worked v)) ∷ []
 
 key-tn : (v : Version) → soundVersion v ≡ true → keyOf (v .id) / 65536 ≡ v .id .tn .0
@@ -52,14 +52,14 @@ pub chain-parts : (vs : List Version) (g : Group) → AllSound vs → Chain g vs
 unfolding follows next
 chain-parts [] g a h = record { rises = tt; lives = tt; sent = tt; work = tt }
 chain-parts (v ∷ vs) g a h =
-    let w = chain-true (ltb (g .last) (keyOf (v .id))) (seconds g v) (h .0) in
+    let of : (i : ℕ) → getD (tested g v) i true ≡ true = conj-at (tested g v) (h .0) in
     let r = chain-parts vs (next g v) (a .1) (h .1) in
     let e = key-tn v (a .0) in
     record {
-      rises = (ltb-true _ _ (w .0), r .rises);
-      lives = (not-true _ (w .1 .0), subst (λ (m : ℕ). Flags live m (next g v .live) vs) e (r .lives));
-      sent = (not-true _ (w .1 .1 .0), subst (λ (m : ℕ). Flags sends m (next g v .sends) vs) e (r .sent));
-      work = (not-true _ (w .1 .1 .1 .0), subst (λ (m : ℕ). Flags worked m (next g v .worked) vs) e (r .work));
+      rises = (ltb-true _ _ (of 0), r .rises);
+      lives = (not-true _ (of 1), subst (λ (m : ℕ). Flags live m (next g v .live) vs) e (r .lives));
+      sent = (not-true _ (of 2), subst (λ (m : ℕ). Flags sends m (next g v .sends) vs) e (r .sent));
+      work = (not-true _ (of 3), subst (λ (m : ℕ). Flags worked m (next g v .worked) vs) e (r .work));
     }
 
 pub parts-chain : (vs : List Version) (g : Group) → AllSound vs → Parts g vs → Chain g vs
@@ -67,7 +67,7 @@ unfolding follows next
 parts-chain [] g a p = tt
 parts-chain (v ∷ vs) g a p =
     let e = sym (key-tn v (a .0)) in (
-      true-chain (ltb (g .last) (keyOf (v .id))) (seconds g v) (lt-ltb _ _ (p .rises .0)) (ap not (p .lives .0), (ap not (p .sent .0), (ap not (p .work .0), tt))),
+      conj-all (tested g v) (with (lt-ltb _ _ (p .rises .0)) (with (ap not (p .lives .0)) (with (ap not (p .sent .0)) (with (ap not (p .work .0)) none)))),
       parts-chain vs (next g v) (a .1)
           (record {
             rises = p .rises .1;
@@ -87,19 +87,18 @@ split-each : (t vs : List Version) → all (eachIn t) vs ≡ true → (all (oneO
 unfolding oneEach
 split-each t [] h = (refl, (refl, refl))
 split-each t (v ∷ vs) h =
-    let w = both (eachIn t v) (all (eachIn t) vs) h in
-    let x = chain-true (oneOf live t v) (oneOf sends t v ∷ oneOf worked t v ∷ []) (w .0) in
-    let r = split-each t vs (w .1) in
-    (rw (x .0, r .0), (rw (x .1 .0, r .1 .0), rw (x .1 .1 .0, r .1 .1)))
+    let three : List Bool = oneOf live t v ∷ oneOf sends t v ∷ oneOf worked t v ∷ [] in
+    let of : (i : ℕ) → getD three i true ≡ true = conj-at three (and-l (eachIn t v) (all (eachIn t) vs) h) in
+    let r = split-each t vs (and-r (eachIn t v) (all (eachIn t) vs) h) in
+    (both-true _ _ (of 0) (r .0), (both-true _ _ (of 1) (r .1 .0), both-true _ _ (of 2) (r .1 .1)))
 
 join-each : (t vs : List Version) → all (oneOf live t) vs ≡ true → all (oneOf sends t) vs ≡ true → all (oneOf worked t) vs ≡ true → all (eachIn t) vs ≡ true
 unfolding oneEach
 join-each t [] l s w = refl
 join-each t (v ∷ vs) l s w =
-    let a = both (oneOf live t v) (all (oneOf live t) vs) l in
-    let b = both (oneOf sends t v) (all (oneOf sends t) vs) s in
-    let c = both (oneOf worked t v) (all (oneOf worked t) vs) w in
-    rw (a .0, b .0, c .0) (join-each t vs (a .1) (b .1) (c .1))
+    rw
+    (and-l (oneOf live t v) (all (oneOf live t) vs) l, and-l (oneOf sends t v) (all (oneOf sends t) vs) s, and-l (oneOf worked t v) (all (oneOf worked t) vs) w)
+    (join-each t vs (and-r (oneOf live t v) (all (oneOf live t) vs) l) (and-r (oneOf sends t v) (all (oneOf sends t) vs) s) (and-r (oneOf worked t v) (all (oneOf worked t) vs) w))
 
 pub record Good (rows : ℕ) (t : List Version) : Type 0 where
   pub few : rows ≤ ROWS
@@ -111,19 +110,19 @@ pub record Good (rows : ℕ) (t : List Version) : Type 0 where
   pub work : AtMostOne worked t
 
 abbrev tests : ℕ → List Version → List Bool
-tests rows t = leb (length t) rows ∷ rising t ∷ all soundVersion t ∷ soundLines itself t ∷ []
+tests rows t = leb rows 4096 ∷ leb (length t) rows ∷ rising t ∷ all soundVersion t ∷ soundLines itself t ∷ []
 
 pub table-good : (rows : ℕ) (t : List Version) → soundTable itself rows t ≡ true → Good rows t
 unfolding soundTable soundLines
 table-good rows t h =
-    let w = chain-true (leb rows 4096) (tests rows t) h in
-    let a = all-sound t (w .1 .1 .1 .0) in
-    let e = split-each t t (w .1 .1 .1 .1 .0) in
+    let of : (i : ℕ) → getD (tests rows t) i true ≡ true = conj-at (tests rows t) h in
+    let a = all-sound t (of 3) in
+    let e = split-each t t (of 4) in
     record {
-      few = leb-true _ _ (w .0);
-      room = leb-true _ _ (w .1 .0);
+      few = leb-true _ _ (of 0);
+      room = leb-true _ _ (of 1);
       sound = a;
-      rises = rising-rises t a (w .1 .1 .0);
+      rises = rising-rises t a (of 2);
       lives = each-one live t (e .0);
       sent = each-one sends t (e .1 .0);
       work = each-one worked t (e .1 .1);
@@ -132,23 +131,22 @@ table-good rows t h =
 pub good-table : (rows : ℕ) (t : List Version) → Good rows t → soundTable itself rows t ≡ true
 unfolding soundTable soundLines
 good-table rows t g =
-    true-chain (leb rows 4096) (tests rows t) (le-leb _ _ (g .few))
-    (le-leb _ _ (g .room), (rises-rising t (g .sound) (g .rises), (sound-all t (g .sound), (join-each t t (one-each live t (g .lives) t) (one-each sends t (g .sent) t) (one-each worked t (g .work) t), tt))))
+    conj-all (tests rows t)
+    (with (le-leb _ _ (g .few)) (with (le-leb _ _ (g .room)) (with (rises-rising t (g .sound) (g .rises)) (with (sound-all t (g .sound)) (with (join-each t t (one-each live t (g .lives) t) (one-each sends t (g .sent) t) (one-each worked t (g .work) t)) none)))))
 
--- no rows at all is a table
 pub good-chain : (rows : ℕ) (t : List Version) → Good rows t → Chain start t
 good-chain rows t g =
     parts-chain t start (g .sound)
     (record {
       rises = g .rises;
-      lives = tally-flags live t 0 false (λ n. omega (arith, g .lives n, none (eqb 0 n)));
-      sent = tally-flags sends t 0 false (λ n. omega (arith, g .sent n, none (eqb 0 n)));
-      work = tally-flags worked t 0 false (λ n. omega (arith, g .work n, none (eqb 0 n)));
+      lives = tally-flags live t 0 false (λ n. omega (arith, g .lives n, zero-one (eqb 0 n)));
+      sent = tally-flags sends t 0 false (λ n. omega (arith, g .sent n, zero-one (eqb 0 n)));
+      work = tally-flags worked t 0 false (λ n. omega (arith, g .work n, zero-one (eqb 0 n)));
     })
   where
-    none : (b : Bool) → one b false ≡ 0
-    none true = refl
-    none false = refl
+    zero-one : (b : Bool) → one b false ≡ 0
+    zero-one true = refl
+    zero-one false = refl
 
 pub chain-good : (rows : ℕ) (t : List Version) → rows ≤ ROWS → length t ≤ rows → AllSound t → Chain start t → Good rows t
 chain-good rows t f l a c =

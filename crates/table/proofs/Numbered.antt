@@ -18,7 +18,7 @@ use Rattle.model.specs.Table.{order, sel, Under, Rising, inLine, rowsOf, find, 
 use Rattle.model.proofs.Order.{order-self, order-eq}
 use Rattle.model.proofs.TableLaws.{under-tail, rising-part}
 use Rattle.row.specs.Layout.{keyOf}
-use Rattle.row.proofs.Trues.{both}
+use Rattle.model.proofs.Lists.{and-l, and-r}
 use Rattle.table.specs.Find.{past, lowerOf, keyFor, keys, placeIn}
 use Rattle.table.specs.Sound.{itself}
 use Rattle.table.specs.Survey.{named}
@@ -96,8 +96,9 @@ place-up (v ∷ vs) j k h = go (ltb (keyFor v) j) (ltb (keyFor v) k) refl refl (
 
 pub named-is : (k : Id) (v : Version) → named k v ≡ true → v .id ≡ k
 named-is k v e =
-    let w = both (eqb (v .id .tn .0) (k .tn .0)) (eqb (v .id .number) (k .number)) e in
-    λ i. record { tn = record { 0 = eqb-true (v .id .tn .0) (k .tn .0) (w .0) i }; number = eqb-true (v .id .number) (k .number) (w .1) i }
+    let a = and-l (eqb (v .id .tn .0) (k .tn .0)) (eqb (v .id .number) (k .number)) e in
+    let b = and-r (eqb (v .id .tn .0) (k .tn .0)) (eqb (v .id .number) (k .number)) e in
+    λ i. record { tn = record { 0 = eqb-true (v .id .tn .0) (k .tn .0) a i }; number = eqb-true (v .id .number) (k .number) b i }
 
 is-named : (k : Id) (v : Version) → v .id ≡ k → named k v ≡ true
 is-named k v e =

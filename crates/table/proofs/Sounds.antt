@@ -16,7 +16,7 @@ use Rattle.model.specs.Basics.{all}
 use Rattle.model.specs.Table.{lex, order, sel}
 use Rattle.model.specs.Sound.{soundVersion, above, rising}
 use Rattle.row.specs.Layout.{keyOf}
-use Rattle.row.proofs.Trues.{both}
+use Rattle.model.proofs.Lists.{and-l, and-r}
 use Rattle.row.proofs.Rooms.{sound-room, sound-tn}
 
 abbrev pub AllSound : List Version → Type 0
@@ -31,8 +31,7 @@ sound-at (v ∷ vs) (suc i) d a l = sound-at vs i d (a .1) (le-of-suc-le-suc l)
 pub all-sound : (vs : List Version) → all soundVersion vs ≡ true → AllSound vs
 all-sound [] e = tt
 all-sound (v ∷ vs) e =
-    let w = both (soundVersion v) (all soundVersion vs) e in
-    (w .0, all-sound vs (w .1))
+    (and-l (soundVersion v) (all soundVersion vs) e, all-sound vs (and-r (soundVersion v) (all soundVersion vs) e))
 
 pub sound-all : (vs : List Version) → AllSound vs → all soundVersion vs ≡ true
 sound-all [] a = refl

@@ -32,7 +32,7 @@ fn admit(g: Group, w: Words) -> Joined
 {
     if row::fields::spare_free(w) {
         let v = row::fields::version_of(w);
-        if row::sound::sound_version(v) {
+        if sound::sound_version(v) {
             return join::follow(g, v);
         }
     }
