@@ -3,3 +3,4 @@ pub mod Spelling
 pub mod Layouts
 pub mod Rooms
 pub mod Packs
+pub mod Examples

@@ -17,9 +17,9 @@ use Rattle.row.specs.Layout.{pack}
 use Rattle.table.specs.declared.scan.Soundness.{Soundness}
 use Rattle.table.specs.declared.scan.Soundness.the-variants.{Sound}
 use Rattle.table.specs.Place.{putRow, insRow, delRow}
-use Rattle.table.specs.Table.{decode, encode, insertAt, removeAt}
+use Rattle.table.specs.Table.{piecesOf, decode, encode}
 use Rattle.table.specs.Find.{keyFor, placeIn}
-use Rattle.table.specs.Sound.{soundnessOf, rowsIn, itself, SoundTable}
+use Rattle.table.specs.Sound.{scanRows, scanOf, soundnessOf, rowsIn, itself, SoundTable}
 use Rattle.table.specs.Survey.{versionAt}
 use Rattle.table.proofs.Sounds.{AllSound, RisingFrom}
 use Rattle.table.proofs.Tables.{encode-length, decode-encode, put-encode, ins-encode, del-encode}
@@ -113,3 +113,8 @@ sound-exactly t n y = (
       record { versions = decode t; rows = rowsIn t; is = s .is; sound = s .sound; count = s .count },
   λ m. ap soundnessOf (m .is) ∙ says-sound (m .versions) (m .rows) (m .sound) ∙ ap Sound (m .count),
 )
+
+-- no rows at all is a table too
+pub empty-sound : soundnessOf [] ≡ Sound 0
+unfolding soundnessOf scanOf scanRows piecesOf
+empty-sound = refl
