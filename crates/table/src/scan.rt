@@ -84,13 +84,18 @@ fn over(t: &[u8]) -> Scan
             worked: false,
         },
     };
-    let mut i = 0;
+    if n == 0 {
+        return s;
+    }
+    // A row is judged one turn after its words are read: so the compiler keeps each word whole, and reads it with one load.
+    let mut w = rows::words(t, 0);
+    let mut i = 1;
     while i < n {
-        let w = rows::words(t, i);
         s = turn(s, w);
+        w = rows::words(t, i);
         i += 1;
     }
-    s
+    turn(s, w)
 }
 
 fn whole(t: &[u8]) -> Scan
