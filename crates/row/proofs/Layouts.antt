@@ -1,9 +1,9 @@
 -- The layout both ways: a version with room in its bits is read back, and words with no spare bit set are written back.
 -- Assumes nothing.
-use mathlib.Core.Path.{_≡_, refl, sym, ap, ap₂, _∙_, subst}
-use mathlib.Core.Bool.{Bool, true, false, _&&_}
+use mathlib.Core.Path.{_≡_, refl, sym, ap, _∙_}
+use mathlib.Core.Bool.{Bool, true, false}
 use mathlib.Core.List.{List, [], _∷_}
-use Prim.Native.Nat.{ℕ, zero, suc, _/_, _%_, _^_, _≤_, _<_}
+use Prim.Native.Nat.{ℕ, zero, suc, _/_, _%_, _^_, _<_}
 use native.Mathlib.Nat.{mod-eq-of-lt, mod-lt}
 use native.Mathlib.Omega.{arith}
 use borrow.Author.Tests.{lt-ltb, eqb-true}
@@ -12,7 +12,7 @@ use lib.ListN.{getD}
 use Rattle.octets.specs.Fields.{cut, join, fit, join-lt, join-cut, cut-join}
 use Rattle.model.specs.declared.Version.{Version}
 use Rattle.row.specs.declared.Words.{Words}
-use Rattle.row.specs.Layout.{headWidths, termWidths, pairWidths, flag, marked, field, versionOf, spareless, headFields, termFields, dueFields, timeFields, wordsOf, Small, Room}
+use Rattle.row.specs.Layout.{headWidths, termWidths, pairWidths, flag, marked, field, versionOf, spareless, headFields, termFields, dueFields, timeFields, wordsOf, Room}
 use Rattle.model.proofs.Lists.{and-l, and-r}
 use Rattle.row.proofs.Spelling.{Fit64}
 

@@ -1,24 +1,24 @@
 -- A version and its row's bytes: the round trips, and what a table needs to know of a row. Nothing else of a row is used above.
 -- Assumes nothing.
-use mathlib.Core.Path.{_≡_, refl, sym, ap, _∙_, subst}
-use mathlib.Core.Bool.{Bool, true, false, _&&_}
+use mathlib.Core.Path.{_≡_, sym, ap, _∙_}
+use mathlib.Core.Bool.{true, false}
 use mathlib.Core.List.{List, _++_, map}
-use Prim.Native.Nat.{ℕ, _+_, _*_, _/_, _%_, _^_, _≤_, _<_}
+use Prim.Native.Nat.{ℕ, _/_, _^_, _<_}
 use native.Mathlib.Nat.{ne-of-gt}
 use native.Mathlib.Omega.{arith}
 use borrow.Author.Tests.{eq-eqb, ne-eqb, eqb-true}
 use lib.Dec.{eqb}
 use lib.ListN.{length, getD}
 use Rattle.octets.specs.Octets.{Bytes}
-use Rattle.octets.specs.Fields.{cut, join, cut-join}
+use Rattle.octets.specs.Fields.{join, cut-join}
 use Rattle.model.specs.declared.Version.{Version}
 use Rattle.model.specs.Sound.{soundVersion}
 use Rattle.model.proofs.Lists.{conj-at}
 use Rattle.row.specs.declared.Words.{Words}
 use Rattle.row.specs.Size.{ROW}
 use Rattle.row.specs.Codec.{wordsIn, firstOf, lastOf, bytesOf, isBlank, noWords, blank}
-use Rattle.row.specs.Layout.{headWidths, termWidths, field, versionOf, spareless, headFields, termFields, wordsOf, Small, Room, keyOf, pack, unpack}
-use Rattle.row.proofs.Spelling.{Fit64, bytes-length, words-bytes, bytes-words, words-fit, none-blank, blank-none}
+use Rattle.row.specs.Layout.{headWidths, termWidths, field, versionOf, spareless, headFields, termFields, wordsOf, Room, keyOf, pack, unpack}
+use Rattle.row.proofs.Spelling.{bytes-length, words-bytes, bytes-words, words-fit, none-blank, blank-none}
 use Rattle.row.proofs.Layouts.{head-fits, terms-fit, room-fits, version-words, words-version}
 use Rattle.row.proofs.Rooms.{sound-room, sound-tn}
 

@@ -1,7 +1,7 @@
 -- A sound version has room in its row's bits. Assumes nothing.
 use mathlib.Core.Path.{_≡_, refl, sym, _∙_}
-use mathlib.Core.Bool.{Bool, true, false, cond, _&&_, _||_, or-false}
-use mathlib.Core.List.{List, [], _∷_}
+use mathlib.Core.Bool.{Bool, true, false, cond, _&&_, or-false}
+use mathlib.Core.List.{[], _∷_}
 use Prim.Native.Nat.{ℕ, _/_, _%_, _^_, _≤_, _<_}
 use native.Mathlib.Omega.{arith}
 use borrow.Author.Tests.{ltb-true, leb-true, eqb-true}
@@ -17,7 +17,7 @@ use Rattle.model.specs.Sound.{yes, no, retriesInRange, newWhole, oldWhole, caus
 use Rattle.model.proofs.Lists.{and-l, and-r, conj-at}
 use Rattle.model.proofs.SoundSets.{in-set}
 use Rattle.model.proofs.SoundRows.{row-of, cast-ranges}
-use Rattle.row.specs.Layout.{Small, Room}
+use Rattle.row.specs.Layout.{Room}
 
 -- ---- numbers
 

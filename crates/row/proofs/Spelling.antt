@@ -3,11 +3,11 @@
 use mathlib.Core.Path.{_≡_, refl, sym, ap, ap₂, _∙_, subst}
 use mathlib.Core.List.{List, [], _∷_, _++_, append-assoc, append-nil}
 use Prim.Native.Nat.{ℕ, zero, suc, _+_, _*_, _%_, _^_, _≤_, _<_}
-use native.Mathlib.Nat.{zero-mul, suc-mul, add-comm, mod-eq-of-lt, add-zero}
+use native.Mathlib.Nat.{suc-mul, add-comm, mod-eq-of-lt}
 use native.Mathlib.Omega.{arith}
-use lib.ListN.{length, getD, take, drop, length-append, length-take, drop-of-length-le}
+use lib.ListN.{length, getD, take, drop, length-append, drop-of-length-le}
 use lib.Seq.{split-at, drop-drop, take-add, take-all, length-take-le}
-use Rattle.octets.specs.Octets.{Bytes, be, digits, put}
+use Rattle.octets.specs.Octets.{Bytes, be, digits}
 use Rattle.octets.specs.Laws.{length-digits, be-digits, digits-be, be-word, put-after}
 use Rattle.row.specs.declared.Words.{Words}
 use Rattle.row.specs.Size.{ROW}

@@ -1,9 +1,9 @@
 -- What a caller cites besides of a table's lists: a name among the rows of its number, a fresh name, the other live version. Assumes nothing.
-use mathlib.Core.Path.{_≡_, refl, sym, ap, _∙_, subst}
-use mathlib.Core.Bool.{Bool, true, false, cond, not, _&&_}
+use mathlib.Core.Path.{_≡_, refl, sym, ap, _∙_}
+use mathlib.Core.Bool.{Bool, true, false, cond}
 use mathlib.Core.Option.{Option, none, some}
 use mathlib.Core.List.{List, [], _∷_}
-use Prim.Native.Nat.{ℕ, zero, suc, _+_, _≤_, _<_, max, Ordering, Ordering·lt, Ordering·eq, Ordering·gt}
+use Prim.Native.Nat.{ℕ, _≤_, _<_, max, Ordering, Ordering·lt, Ordering·eq, Ordering·gt}
 use native.Mathlib.Omega.{arith}
 use borrow.Author.Tests.{eq-eqb}
 use lib.Dec.{eqb}
@@ -16,9 +16,8 @@ use Rattle.model.specs.Sound.{live, count, soundTable}
 use Rattle.model.proofs.Order.{order-eq}
 use Rattle.table.specs.Sound.{itself}
 use Rattle.table.specs.Survey.{named}
-use Rattle.table.proofs.Sounds.{AllSound, RisingFrom}
-use Rattle.table.proofs.Counted.{AtMostOne, tally-counts}
-use Rattle.table.proofs.Meant.{Good, table-good}
+use Rattle.table.proofs.Counted.{tally-counts}
+use Rattle.table.proofs.Meant.{table-good}
 use Rattle.table.proofs.Numbered.{find-first, rises-type, rising-rows, named-is}
 
 -- ---- a name among the rows of its number

@@ -1,22 +1,20 @@
 -- Setting, putting in and taking out at a place is the model's change of the table. Assumes nothing.
 use mathlib.Core.Path.{_≡_, refl, sym, ap, _∙_, subst}
-use mathlib.Core.Bool.{Bool, true, false}
 use mathlib.Core.Logic.{⊎-elim}
-use mathlib.Core.Option.{Option, none, some}
-use mathlib.Core.List.{List, [], _∷_, _++_}
-use Prim.Native.Nat.{ℕ, zero, suc, _+_, _*_, _≤_, _<_, Ordering, Ordering·lt, Ordering·eq, Ordering·gt}
+use mathlib.Core.Option.{none}
+use mathlib.Core.List.{List, [], _∷_}
+use Prim.Native.Nat.{ℕ, zero, suc, _≤_, _<_, Ordering·eq, Ordering·gt}
 use native.Mathlib.Nat.{not-suc-le-zero, le-of-suc-le-suc, lt-trans}
 use native.Mathlib.Omega.{arith}
 use borrow.Author.Tests.{lt-ltb, le-ltb}
-use lib.Dec.{ltb}
 use lib.ListN.{length, set}
 use Rattle.model.specs.declared.Id.{Id}
 use Rattle.model.specs.declared.Version.{Version}
-use Rattle.model.specs.Table.{order, sel, find, change, put, add, strike}
+use Rattle.model.specs.Table.{order, find, change, put, add, strike}
 use Rattle.model.proofs.Order.{order-self}
 use Rattle.row.specs.Layout.{keyOf}
 use Rattle.table.specs.Table.{insertAt, removeAt}
-use Rattle.table.specs.Find.{past, lowerOf, keyFor, keys, placeIn}
+use Rattle.table.specs.Find.{lowerOf, keyFor, placeIn}
 use Rattle.table.specs.Survey.{versionAt}
 use Rattle.table.proofs.Sounds.{AllSound, RisingFrom, number-lt, Lower, Equal, Higher, order-view, key-higher}
 

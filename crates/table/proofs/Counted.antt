@@ -1,17 +1,16 @@
 -- What each number has at most once, over any test of a version: row by row, and counted. Assumes nothing.
-use mathlib.Core.Path.{_≡_, refl, sym, ap, ap₂, _∙_, subst}
-use mathlib.Core.Bool.{Bool, true, false, cond, not, _&&_, _||_}
+use mathlib.Core.Path.{_≡_, refl, sym, ap, ap₂, subst}
+use mathlib.Core.Bool.{Bool, true, false, cond}
 use mathlib.Core.Logic.{_⊎_, inl, inr, ⊎-elim}
 use mathlib.Core.List.{List, [], _∷_}
-use Prim.Native.Nat.{ℕ, zero, suc, _+_, _*_, _/_, _≤_, _<_}
+use Prim.Native.Nat.{ℕ, _+_, _/_, _≤_, _<_}
 use native.Mathlib.Nat.{ne-of-gt}
 use native.Mathlib.Omega.{arith}
 use borrow.Author.Tests.{eq-eqb, ne-eqb, eqb-true, eqb-false, leb-true, le-leb}
 use lib.Dec.{eqb, leb}
-use lib.ListN.{length}
 use Rattle.octets.specs.Fields.{false-true}
 use Rattle.model.specs.declared.Version.{Version}
-use Rattle.model.specs.Basics.{all, keep}
+use Rattle.model.specs.Basics.{all}
 use Rattle.model.specs.Table.{rowsOf}
 use Rattle.model.specs.Sound.{count}
 use Rattle.row.specs.Layout.{keyOf}

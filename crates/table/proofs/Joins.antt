@@ -1,13 +1,11 @@
 -- The laws of `specs/Join.antt`: the two ways of `follow`. Assumes nothing.
-use mathlib.Core.Path.{_≡_, refl, sym, ap, _∙_, subst}
-use mathlib.Core.Bool.{Bool, true, false, not, _&&_, _||_}
-use Prim.Native.Nat.{ℕ}
+use mathlib.Core.Path.{_≡_, sym, ap, _∙_}
+use mathlib.Core.Bool.{Bool, true, false, not, _&&_}
 use lib.Dec.{ltb}
 use Rattle.model.specs.declared.Version.{Version}
 use Rattle.model.specs.Sound.{live, sends, worked}
 use Rattle.row.specs.Layout.{keyOf}
 use Rattle.table.specs.declared.join.Group.{Group}
-use Rattle.table.specs.declared.join.Joined.{Joined}
 use Rattle.table.specs.declared.join.Joined.the-variants.{No, Yes}
 use Rattle.table.specs.Join.{same, second, either, follows, next, joinIf, joinOf}
 

@@ -1,9 +1,9 @@
 -- What the scan's answer means: the bytes are those of a sound table, and of nothing else. [T1, T2, T3, V11]
 -- Assumes nothing.
-use mathlib.Core.Path.{_≡_, refl, sym, ap, ap₂, _∙_, subst}
-use mathlib.Core.Bool.{Bool, true, false, not, _&&_, _||_}
+use mathlib.Core.Path.{_≡_, refl, sym, ap, _∙_, subst}
+use mathlib.Core.Bool.{Bool, true, false, not}
 use mathlib.Core.List.{List, [], _∷_}
-use Prim.Native.Nat.{ℕ, zero, suc, _+_, _*_, _/_, _%_, _≤_, _<_}
+use Prim.Native.Nat.{ℕ, _*_, _/_, _%_, _≤_, _<_}
 use native.Mathlib.Omega.{arith}
 use borrow.Author.Tests.{eq-eqb, lt-ltb, le-leb, eqb-true, ltb-true, leb-true, not-true}
 use lib.Dec.{eqb, ltb, leb}
@@ -19,15 +19,14 @@ use Rattle.model.proofs.Lists.{and-l, and-r, both-true, conj-at, conj-all}
 use Rattle.table.specs.declared.join.Group.{Group}
 use Rattle.table.specs.declared.scan.Scan.{Scan}
 use Rattle.table.specs.declared.scan.Scan.the-variants.{Bad, Open, Ended}
-use Rattle.table.specs.declared.scan.Soundness.{Soundness}
-use Rattle.table.specs.declared.scan.Soundness.the-variants.{Unsound, Sound}
+use Rattle.table.specs.declared.scan.Soundness.the-variants.{Sound}
 use Rattle.table.specs.Table.{piecesOf, decode, encode}
-use Rattle.table.specs.Join.{start, same, second, either, follows, next, Chain}
+use Rattle.table.specs.Join.{start, same, second, follows, next, Chain}
 use Rattle.table.specs.Sound.{pick, scanRows, scanOf, saidBy, soundnessOf, ROWS, rowsIn, itself, SoundTable}
 use Rattle.table.proofs.Sounds.{AllSound, RisingFrom, number-lt, all-sound, sound-all, rising-rises, rises-rising}
-use Rattle.table.proofs.Counted.{one, Flags, AtMostOne, oneOf, tally, flags-tally, tally-flags, one-each, each-one}
+use Rattle.table.proofs.Counted.{one, Flags, AtMostOne, oneOf, flags-tally, tally-flags, one-each, each-one}
 use Rattle.table.proofs.Tables.{encode-length}
-use Rattle.table.proofs.Scans.{Counts, Read, read-table, table-read}
+use Rattle.table.proofs.Scans.{Counts, read-table, table-read}
 
 -- ---- a chain is a list that rises and has each of three things at most once a number
 

@@ -1,13 +1,13 @@
 -- The laws of `specs/Sound.antt`: a turn of the loop, and what a table of sound rows is. Assumes nothing.
 use mathlib.Core.Path.{_≡_, refl, sym, ap, ap₂, _∙_, subst}
-use mathlib.Core.Bool.{Bool, true, false, _&&_}
+use mathlib.Core.Bool.{Bool, true, false}
 use mathlib.Core.Logic.{_⊎_, inl, inr, ⊎-elim}
 use mathlib.Core.List.{List, [], _∷_, _++_, map}
-use Prim.Native.Nat.{ℕ, zero, suc, _+_, _-_, _*_, _/_, _%_, _≤_, _<_, zero-le}
+use Prim.Native.Nat.{ℕ, zero, suc, _+_, _-_, _*_, _/_, _≤_, _<_, zero-le}
 use native.Mathlib.Nat.{add-zero, zero-add, sub-zero, suc-sub-suc}
 use native.Mathlib.Omega.{arith}
 use native.Mathlib.Numerals.{add-one}
-use lib.ListN.{length, take, drop, getD, replicate, drop-of-length-le}
+use lib.ListN.{length, take, drop, replicate, drop-of-length-le}
 use lib.Seq.{drop-cons, getD-drop}
 use Rattle.octets.specs.Octets.{Bytes}
 use Rattle.model.specs.declared.Version.{Version}
@@ -25,12 +25,12 @@ use Rattle.table.specs.declared.scan.Scan.{Scan}
 use Rattle.table.specs.declared.scan.Scan.the-variants.{Bad, Open, Ended}
 use Rattle.table.specs.Chunks.{chunks, joined}
 use Rattle.table.specs.Place.{rowAt}
-use Rattle.table.specs.Table.{piecesOf, used, usedIf, decode, cells, encode}
-use Rattle.table.specs.Join.{start, follows, next, joinIf, joinOf, Chain}
+use Rattle.table.specs.Table.{piecesOf, used, decode, cells, encode}
+use Rattle.table.specs.Join.{start, follows, next, joinOf, Chain}
 use Rattle.table.specs.Sound.{pick, admitOf, openBy, usedBy, scanRow, scanRows, rowsIn}
-use Rattle.table.proofs.Pieces.{Even, chunks-length, chunks-even, chunks-joined}
+use Rattle.table.proofs.Pieces.{Even, chunks-even, chunks-joined}
 use Rattle.table.proofs.Sounds.{AllSound}
-use Rattle.table.proofs.Tables.{rows-length, rows-at, rows-encode, encode-length}
+use Rattle.table.proofs.Tables.{rows-length, rows-at, rows-encode}
 
 -- ---- a turn of the loop
 

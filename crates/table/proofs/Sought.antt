@@ -1,26 +1,24 @@
 -- Finding in a sound table, said of what the table says. Assumes nothing.
-use mathlib.Core.Path.{_≡_, refl, sym, ap, ap₂, _∙_, subst}
+use mathlib.Core.Path.{_≡_, sym, ap, ap₂, _∙_, subst}
 use mathlib.Core.Bool.{Bool, true, false}
-use mathlib.Core.List.{List, [], _∷_, _++_, map}
-use Prim.Native.Nat.{ℕ, zero, suc, _+_, _-_, _*_, _/_, _^_, _≤_, _<_, zero-le, suc-le-suc}
+use mathlib.Core.List.{List, [], _∷_, map}
+use Prim.Native.Nat.{ℕ, zero, suc, _-_, _^_, _≤_, _<_, zero-le, suc-le-suc}
 use native.Mathlib.Nat.{not-suc-le-zero, le-of-suc-le-suc, lt-trans}
 use native.Mathlib.Omega.{arith}
 use lib.Dec.{ltb}
-use lib.ListN.{length, getD, length-map, take, drop, replicate, List·getD-append}
+use lib.ListN.{length, getD, length-map, replicate, List·getD-append}
 use lib.Seq.{ext-getD}
 use Rattle.model.specs.declared.Version.{Version}
 use Rattle.model.specs.Sound.{soundVersion}
-use Rattle.row.specs.Size.{ROW}
 use Rattle.row.specs.Codec.{wordsIn, blank}
-use Rattle.row.specs.Layout.{versionOf, wordsOf, keyOf, pack, unpack}
-use Rattle.row.proofs.Spelling.{Fit64}
+use Rattle.row.specs.Layout.{pack, unpack}
 use Rattle.row.proofs.Layouts.{room-fits}
 use Rattle.row.proofs.Rooms.{sound-room}
 use Rattle.row.proofs.Packs.{words-pack, unpack-pack, head-key}
 use Rattle.table.specs.Place.{rowAt}
-use Rattle.table.specs.Table.{decode, encode, cells, piecesOf}
+use Rattle.table.specs.Table.{decode, encode, cells}
 use Rattle.table.specs.Find.{keyIn, keyAt, keysOf, Rises, past, lowerOf, keyFor, keys, placeIn}
-use Rattle.table.specs.Sound.{SoundTable, rowsIn, itself}
+use Rattle.table.specs.Sound.{SoundTable, rowsIn}
 use Rattle.table.proofs.Lists.{getD-map}
 use Rattle.table.proofs.Sounds.{AllSound, sound-at, RisingFrom}
 use Rattle.table.proofs.Tables.{rows-at, rows-encode, row-encode, encode-length}

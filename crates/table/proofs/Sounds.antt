@@ -1,9 +1,9 @@
 -- Lists of sound versions, and lists whose keys rise. Assumes nothing.
-use mathlib.Core.Path.{_≡_, refl, sym, ap, _∙_, subst}
-use mathlib.Core.Bool.{Bool, true, false, cond, _&&_}
+use mathlib.Core.Path.{_≡_, refl, ap}
+use mathlib.Core.Bool.{Bool, true, false}
 use mathlib.Core.List.{List, [], _∷_}
 use mathlib.Core.Logic.{_⊎_, inl, inr, ⊎-elim}
-use Prim.Native.Nat.{ℕ, zero, suc, _+_, _*_, _/_, _≤_, _<_, compare, Ordering, Ordering·lt, Ordering·eq, Ordering·gt}
+use Prim.Native.Nat.{ℕ, zero, suc, _≤_, _<_, compare, Ordering, Ordering·lt, Ordering·eq, Ordering·gt}
 use native.Mathlib.Nat.{not-suc-le-zero, le-of-suc-le-suc}
 use native.Mathlib.Omega.{arith}
 use borrow.Author.Tests.{leb-true, leb-false, eqb-true, eqb-false}
@@ -13,7 +13,7 @@ use Rattle.octets.specs.Fields.{false-true}
 use Rattle.model.specs.declared.Id.{Id}
 use Rattle.model.specs.declared.Version.{Version}
 use Rattle.model.specs.Basics.{all}
-use Rattle.model.specs.Table.{lex, order, sel}
+use Rattle.model.specs.Table.{order, sel}
 use Rattle.model.specs.Sound.{soundVersion, above, rising}
 use Rattle.row.specs.Layout.{keyOf}
 use Rattle.model.proofs.Lists.{and-l, and-r}
@@ -87,9 +87,6 @@ module _ (a b : Id) (ha : a .number < 65536) (hb : b .number < 65536) where
 
   pub key-lower : keyOf a < keyOf b → order a b ≡ Ordering·lt
   key-lower h = ⊎-elim (λ w. w .is) (⊎-elim (λ w. absurd (omega (arith, w .key))) (λ w. absurd (omega (arith, w .key)))) order-view
-
-  pub key-equal : keyOf a ≡ keyOf b → order a b ≡ Ordering·eq
-  key-equal h = ⊎-elim (λ w. absurd (omega (arith, w .key))) (⊎-elim (λ w. w .is) (λ w. absurd (omega (arith, w .key)))) order-view
 
   pub key-higher : keyOf b < keyOf a → order a b ≡ Ordering·gt
   key-higher h = ⊎-elim (λ w. absurd (omega (arith, w .key))) (⊎-elim (λ w. absurd (omega (arith, w .key))) (λ w. w .is)) order-view

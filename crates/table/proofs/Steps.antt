@@ -1,10 +1,10 @@
 -- What a caller cites: each change of a sound table's bytes is the model's change of what the table says. [T2, U1]
 -- Assumes nothing.
 use mathlib.Core.Path.{_≡_, refl, sym, ap, ap₂, _∙_, subst}
-use mathlib.Core.Bool.{Bool, true, false}
-use mathlib.Core.Option.{Option, none, some}
+use mathlib.Core.Bool.{true}
+use mathlib.Core.Option.{none}
 use mathlib.Core.List.{List, [], _∷_}
-use Prim.Native.Nat.{ℕ, zero, suc, _+_, _*_, _/_, _≤_, _<_}
+use Prim.Native.Nat.{ℕ, suc, _*_, _≤_, _<_}
 use native.Mathlib.Omega.{arith}
 use lib.ListN.{length, set, length-set}
 use Rattle.octets.specs.Octets.{Bytes}
@@ -14,16 +14,14 @@ use Rattle.model.specs.Table.{find, change, changes, put, add, strike}
 use Rattle.model.specs.Sound.{soundTable}
 use Rattle.row.specs.Size.{ROW}
 use Rattle.row.specs.Layout.{pack}
-use Rattle.table.specs.declared.scan.Soundness.{Soundness}
 use Rattle.table.specs.declared.scan.Soundness.the-variants.{Sound}
 use Rattle.table.specs.Place.{putRow, insRow, delRow}
 use Rattle.table.specs.Table.{piecesOf, decode, encode}
 use Rattle.table.specs.Find.{keyFor, placeIn}
 use Rattle.table.specs.Sound.{scanRows, scanOf, soundnessOf, rowsIn, itself, SoundTable}
 use Rattle.table.specs.Survey.{versionAt}
-use Rattle.table.proofs.Sounds.{AllSound, RisingFrom}
 use Rattle.table.proofs.Tables.{encode-length, decode-encode, put-encode, ins-encode, del-encode}
-use Rattle.table.proofs.Meant.{Good, table-good, sound-says, says-sound}
+use Rattle.table.proofs.Meant.{table-good, sound-says, says-sound}
 use Rattle.table.proofs.Sought.{place-le, sound-good}
 use Rattle.table.proofs.Changed.{sound-numbered, set-puts, remove-strikes, insert-adds, rising-set, numbered-set, name-set}
 

@@ -1,13 +1,12 @@
 -- The laws of `specs/Survey.antt`: one version more, a turn of the loop, and the sum of a list by the model's definitions. Assumes nothing.
-use mathlib.Core.Path.{_≡_, refl, sym, ap, ap₂, _∙_, subst}
+use mathlib.Core.Path.{_≡_, refl, sym, ap, _∙_}
 use mathlib.Core.Bool.{Bool, true, false, cond, not, _&&_, _||_, or-assoc, or-false}
-use mathlib.Core.Option.{Option, none, some}
+use mathlib.Core.Option.{Option, some}
 use mathlib.Core.List.{List, [], _∷_}
-use Prim.Native.Nat.{ℕ, zero, suc, _+_, _≤_, _<_, max, Ordering, Ordering·lt, Ordering·eq, Ordering·gt}
+use Prim.Native.Nat.{ℕ, suc, _+_, _≤_, _<_, max}
 use native.Mathlib.Omega.{arith}
 use native.Mathlib.Numerals.{add-one}
-use lib.Dec.{eqb}
-use lib.ListN.{length, getD}
+use lib.ListN.{length}
 use lib.Seq.{slice, slice-cons, slice-empty}
 use Rattle.model.specs.declared.Id.{Id}
 use Rattle.model.specs.declared.Version.{Version}
@@ -17,7 +16,7 @@ use Rattle.table.specs.declared.survey.Spot.{Spot}
 use Rattle.table.specs.declared.survey.Spot.the-variants.{Nowhere, At}
 use Rattle.table.specs.declared.survey.Part.{Part}
 use Rattle.table.specs.declared.survey.Sum.{Sum}
-use Rattle.table.specs.Survey.{named, firstBy, partWith, sumWith, sumOver, nothing, Within, versionAt, seenAt, theOne, Stands, Found}
+use Rattle.table.specs.Survey.{named, firstBy, partWith, sumWith, sumOver, Within, versionAt, seenAt, Found}
 
 -- ---- one version more
 
@@ -89,22 +88,15 @@ max-assoc a b c = omega arith
 
 -- each field of a part, by the model's definitions
 module _ (q : Version → Bool) where
-  pub part-newest : (p : Part) (i : ℕ) (l : List Version) → partOver q p i l .newest ≡ max (p .newest) (largest (λ (v : Version). v .id .number) (keep q l))
-  part-newest p i [] = sym (max-none (p .newest))
-  part-newest p i (v ∷ vs) = go (q v) (part-newest (partWith (q v) p i v) (i + 1) vs)
+  -- a field that takes the larger of what it was and what a version has
+  pub part-largest : (get : Part → ℕ) (f : Version → ℕ) → ((p : Part) (i : ℕ) (v : Version) → get (partWith true p i v) ≡ max (get p) (f v))
+      → (p : Part) (i : ℕ) (l : List Version) → get (partOver q p i l) ≡ max (get p) (largest f (keep q l))
+  part-largest get f h p i [] = sym (max-none (get p))
+  part-largest get f h p i (v ∷ vs) = go (q v) (part-largest get f h (partWith (q v) p i v) (i + 1) vs)
     where
-      go : (b : Bool) → partOver q (partWith b p i v) (i + 1) vs .newest ≡ max (partWith b p i v .newest) (largest (λ (v : Version). v .id .number) (keep q vs))
-          → partOver q (partWith b p i v) (i + 1) vs .newest ≡ max (p .newest) (largest (λ (v : Version). v .id .number) (cond b (v ∷ keep q vs) (keep q vs)))
-      go true e = e ∙ max-assoc (p .newest) (v .id .number) _
-      go false e = e
-
-  pub part-stamp : (p : Part) (i : ℕ) (l : List Version) → partOver q p i l .stamp ≡ max (p .stamp) (largest (λ (v : Version). v .stamp) (keep q l))
-  part-stamp p i [] = sym (max-none (p .stamp))
-  part-stamp p i (v ∷ vs) = go (q v) (part-stamp (partWith (q v) p i v) (i + 1) vs)
-    where
-      go : (b : Bool) → partOver q (partWith b p i v) (i + 1) vs .stamp ≡ max (partWith b p i v .stamp) (largest (λ (v : Version). v .stamp) (keep q vs))
-          → partOver q (partWith b p i v) (i + 1) vs .stamp ≡ max (p .stamp) (largest (λ (v : Version). v .stamp) (cond b (v ∷ keep q vs) (keep q vs)))
-      go true e = e ∙ max-assoc (p .stamp) (v .stamp) _
+      go : (b : Bool) → get (partOver q (partWith b p i v) (i + 1) vs) ≡ max (get (partWith b p i v)) (largest f (keep q vs))
+          → get (partOver q (partWith b p i v) (i + 1) vs) ≡ max (get p) (largest f (cond b (v ∷ keep q vs) (keep q vs)))
+      go true e = e ∙ ap (λ (n : ℕ). max n (largest f (keep q vs))) (h p i v) ∙ max-assoc (get p) (f v) (largest f (keep q vs))
       go false e = e
 
   pub part-sends : (p : Part) (i : ℕ) (l : List Version) → partOver q p i l .sends ≡ p .sends || any sends (keep q l)

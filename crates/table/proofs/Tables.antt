@@ -1,20 +1,17 @@
 -- The laws of `specs/Table.antt`: what the byte operations of `specs/Place.antt` do to a table that says vs. Assumes nothing.
-use mathlib.Core.Path.{_≡_, refl, sym, ap, ap₂, _∙_, subst}
+use mathlib.Core.Path.{_≡_, refl, sym, ap, ap₂, _∙_}
 use mathlib.Core.List.{List, [], _∷_, _++_, map, append-assoc, map-append}
-use Prim.Native.Nat.{ℕ, zero, suc, _+_, _-_, _*_, _/_, _^_, _≤_, _<_}
-use native.Mathlib.Nat.{suc-mul, ne-of-gt, not-suc-le-zero, le-of-suc-le-suc}
+use Prim.Native.Nat.{ℕ, zero, suc, _+_, _-_, _*_, _/_, _≤_, _<_}
+use native.Mathlib.Nat.{suc-mul}
 use native.Mathlib.Omega.{arith}
 use native.Mathlib.Numerals.{add-one}
-use mathlib.Core.Bool.{Bool, true, false}
-use borrow.Author.Tests.{ne-eqb}
-use lib.Dec.{eqb}
+use mathlib.Core.Bool.{Bool}
 use lib.ListN.{length, take, drop, getD, set, replicate, length-append, length-take, length-drop, length-set, length-map, length-replicate, List·getD-append}
-use lib.Seq.{slice, set-split, set-append-left, take-append-le, take-at, drop-at, drop-append-le, drop-append-add}
+use lib.Seq.{slice, set-split, set-append-left, take-append-le, take-at, drop-at, drop-append-add}
 use Rattle.model.specs.declared.Version.{Version}
-use Rattle.model.specs.Sound.{soundVersion}
 use Rattle.row.specs.Size.{ROW}
-use Rattle.row.specs.Codec.{wordsIn, isBlank, blank}
-use Rattle.row.specs.Layout.{Room, pack, unpack}
+use Rattle.row.specs.Codec.{blank}
+use Rattle.row.specs.Layout.{pack, unpack}
 use Rattle.table.specs.Place.{rowAt, putRow, insRow, delRow}
 use Rattle.table.specs.Chunks.{chunks, joined}
 use Rattle.table.specs.Table.{piecesOf, used, usedIf, decode, cells, encode, insertAt, removeAt}

@@ -1,30 +1,27 @@
 -- What one pass over the rows of a number tells, by the model's definitions. Assumes nothing.
 use mathlib.Core.Path.{_≡_, refl, sym, ap, ap₂, _∙_, subst}
-use mathlib.Core.Bool.{Bool, true, false, cond, not, _&&_}
-use mathlib.Core.Option.{Option, none, some}
+use mathlib.Core.Bool.{Bool, true, not, _&&_}
+use mathlib.Core.Option.{Option}
 use mathlib.Core.List.{List, [], _∷_}
-use Prim.Native.Nat.{ℕ, zero, suc, _+_, _-_, _*_, _≤_, _<_, max}
+use Prim.Native.Nat.{ℕ, _+_, _-_, _*_, _≤_, _<_, max}
 use native.Mathlib.Omega.{arith}
-use lib.ListN.{length, getD}
+use lib.ListN.{length}
 use lib.Seq.{slice, getD-drop, getD-take, length-slice}
 use Rattle.model.specs.declared.Id.{Id}
 use Rattle.model.specs.declared.Version.{Version}
-use Rattle.model.specs.Basics.{any, keep, first, largest}
-use Rattle.model.specs.Table.{rowsOf, find, others}
-use Rattle.model.specs.Sound.{live, sends, worked}
-use Rattle.row.specs.Layout.{unpack}
+use Rattle.model.specs.Basics.{keep, first}
+use Rattle.model.specs.Table.{rowsOf, others}
+use Rattle.model.specs.Sound.{live, worked}
 use Rattle.table.specs.declared.survey.Spot.{Spot}
-use Rattle.table.specs.declared.survey.Spot.the-variants.{Nowhere, At}
 use Rattle.table.specs.declared.survey.Part.{Part}
 use Rattle.table.specs.declared.survey.Sum.{Sum}
-use Rattle.table.specs.declared.survey.Seen.{Seen}
 use Rattle.table.specs.Find.{placeIn}
 use Rattle.table.specs.Sound.{itself}
-use Rattle.table.specs.Survey.{named, sumOver, nothing, noSum, Within, versionAt, seenAt, summaryBy, factsBy, Found, Summed, Surveyed, Placed}
+use Rattle.table.specs.Survey.{named, sumOver, nothing, noSum, Within, seenAt, summaryBy, factsBy, Found, Summed, Surveyed, Placed}
 use Rattle.table.proofs.Sounds.{AllSound, RisingFrom}
 use Rattle.table.proofs.Sought.{place-le}
 use Rattle.table.proofs.Numbered.{rows-between, place-up, others-kept, find-first, rising-rows}
-use Rattle.table.proofs.Surveys.{partOver, spotOf, sum-all, sum-rest, sum-worked, sum-asked, part-newest, part-stamp, part-sends, part-live, Lies, spot-within, spot-found, first-kept}
+use Rattle.table.proofs.Surveys.{partOver, spotOf, sum-all, sum-rest, sum-worked, sum-asked, part-largest, part-sends, part-live, Lies, spot-within, spot-found, first-kept}
 
 keep-all : (l : List Version) → keep (λ v. true) l ≡ l
 keep-all [] = refl
@@ -47,8 +44,8 @@ slice-lies t from to h l =
 -- the summary of those that pass q
 part-summed : (t l : List Version) (i : ℕ) (q : Version → Bool) → Lies t l i → Summed t (summaryBy t (partOver q nothing i l)) (keep q l)
 part-summed t l i q h = record {
-  newest = part-newest q nothing i l ∙ zero-max _;
-  stamp = part-stamp q nothing i l ∙ zero-max _;
+  newest = part-largest q (λ (p : Part). p .newest) (λ (v : Version). v .id .number) (λ p i v. refl) nothing i l ∙ zero-max _;
+  stamp = part-largest q (λ (p : Part). p .stamp) (λ (v : Version). v .stamp) (λ p i v. refl) nothing i l ∙ zero-max _;
   sending = part-sends q nothing i l;
   live =
       subst (λ (s : Spot). Found t (seenAt t s) (first live (keep q l))) (sym (part-live q nothing i l))
