@@ -1,0 +1,3 @@
+pub mod Size
+pub mod Codec
+pub mod Layout

@@ -1,0 +1,102 @@
+// Ten words in a slice of ROW bytes.
+use crate::ROW;
+use crate::Words;
+ghost use mathlib.Core.Path.{_≡_};
+ghost use lib.ListN.{length};
+ghost use Rattle.row.specs.Size.{ROW};
+ghost use Rattle.row.specs.Codec.{wordsIn, bytesOf, stored, firstOf, lastOf, isBlank, noWords};
+
+pub fn get(b: &[u8]) -> Words
+    requires { ⌜ length (now b) ≡ ROW ⌝ }
+    ensures { λ r. ⌜ r ≡ wordsIn (now (b .entry)) ⌝ }
+{
+    let head = octets::u64_at(b, 0);
+    let terms = octets::u64_at(b, 8);
+    let dues = octets::u64_at(b, 16);
+    let times = octets::u64_at(b, 24);
+    let confirmed = octets::u64_at(b, 32);
+    let waiting = octets::u64_at(b, 40);
+    let failed = octets::u64_at(b, 48);
+    let low = octets::u64_at(b, 56);
+    let mid = octets::u64_at(b, 64);
+    let high = octets::u64_at(b, 72);
+    Words {
+        head,
+        terms,
+        dues,
+        times,
+        confirmed,
+        waiting,
+        failed,
+        low,
+        mid,
+        high,
+    }
+}
+
+// The first five words, and then the other five.
+fn put_first(b: &mut [u8], w: Words)
+    requires { ⌜ length (now b) ≡ ROW ⌝ }
+    ensures { λ _. ⌜ now (b .exit) ≡ stored (now (b .entry)) 0 (firstOf w) ⌝ }
+{
+    octets::put_u64(b, 0, w.head);
+    octets::put_u64(b, 8, w.terms);
+    octets::put_u64(b, 16, w.dues);
+    octets::put_u64(b, 24, w.times);
+    octets::put_u64(b, 32, w.confirmed);
+}
+
+fn put_last(b: &mut [u8], w: Words)
+    requires { ⌜ length (now b) ≡ ROW ⌝ }
+    ensures { λ _. ⌜ now (b .exit) ≡ stored (now (b .entry)) 40 (lastOf w) ⌝ }
+{
+    octets::put_u64(b, 40, w.waiting);
+    octets::put_u64(b, 48, w.failed);
+    octets::put_u64(b, 56, w.low);
+    octets::put_u64(b, 64, w.mid);
+    octets::put_u64(b, 72, w.high);
+}
+
+pub fn put(b: &mut [u8], w: Words)
+    requires { ⌜ length (now b) ≡ ROW ⌝ }
+    ensures { λ _. ⌜ now (b .exit) ≡ bytesOf w ⌝ }
+{
+    put_first(b, w);
+    put_last(b, w);
+}
+
+// Whether all bits are zero, as in a free row.
+pub fn blank(w: Words) -> bool
+    ensures { λ r. ⌜ r ≡ isBlank w ⌝ }
+{
+    if w.head != 0 {
+        return false;
+    }
+    (w.terms == 0)
+        & (w.dues == 0)
+        & (w.times == 0)
+        & (w.confirmed == 0)
+        & (w.waiting == 0)
+        & (w.failed == 0)
+        & (w.low == 0)
+        & (w.mid == 0)
+        & (w.high == 0)
+}
+
+// The words of a free row.
+pub fn none() -> Words
+    ensures { λ r. ⌜ r ≡ noWords ⌝ }
+{
+    Words {
+        head: 0,
+        terms: 0,
+        dues: 0,
+        times: 0,
+        confirmed: 0,
+        waiting: 0,
+        failed: 0,
+        low: 0,
+        mid: 0,
+        high: 0,
+    }
+}

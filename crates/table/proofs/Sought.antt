@@ -1,0 +1,101 @@
+-- Finding in a sound table, said of what the table says. Assumes nothing.
+use mathlib.Core.Path.{_≡_, sym, ap, ap₂, _∙_, subst}
+use mathlib.Core.Bool.{Bool, true, false}
+use mathlib.Core.List.{List, [], _∷_, map}
+use Prim.Native.Nat.{ℕ, zero, suc, _-_, _^_, _≤_, _<_, zero-le, suc-le-suc}
+use native.Mathlib.Nat.{not-suc-le-zero, le-of-suc-le-suc, lt-trans}
+use native.Mathlib.Omega.{arith}
+use lib.Dec.{ltb}
+use lib.ListN.{length, getD, length-map, replicate, List·getD-append}
+use lib.Seq.{ext-getD}
+use Rattle.model.specs.declared.Version.{Version}
+use Rattle.model.specs.Sound.{soundVersion}
+use Rattle.row.specs.Codec.{wordsIn, blank}
+use Rattle.row.specs.Layout.{pack, unpack}
+use Rattle.row.proofs.Layouts.{room-fits}
+use Rattle.row.proofs.Rooms.{sound-room}
+use Rattle.row.proofs.Packs.{words-pack, unpack-pack, head-key}
+use Rattle.table.specs.Place.{rowAt}
+use Rattle.table.specs.Table.{decode, encode, cells}
+use Rattle.table.specs.Find.{keyIn, keyAt, keysOf, Rises, past, lowerOf, keyFor, keys, placeIn}
+use Rattle.table.specs.Sound.{SoundTable, rowsIn}
+use Rattle.table.proofs.Lists.{getD-map}
+use Rattle.table.proofs.Sounds.{AllSound, sound-at, RisingFrom}
+use Rattle.table.proofs.Tables.{rows-at, rows-encode, row-encode, encode-length}
+use Rattle.table.proofs.Finds.{keys-length, keys-at}
+use Rattle.table.proofs.Meant.{Good, table-good}
+
+-- the key of a sound version's row
+key-pack : (v : Version) → soundVersion v ≡ true → keyIn (pack v) ≡ keyFor v
+unfolding unpack
+key-pack v e =
+    let r = sound-room v e in
+    let h : wordsIn (pack v) .head < 2 ^ 64 = subst (λ (w : ℕ). w < 2 ^ 64) (ap (λ w. w .head) (sym (words-pack v r))) (room-fits v r .head) in
+    head-key (wordsIn (pack v)) h ∙ ap keyFor (unpack-pack v r)
+
+key-encode : (vs : List Version) (n i : ℕ) → AllSound vs → length vs ≤ n → i < length vs → keyAt (encode vs n) i ≡ getD (keys vs) i 0
+unfolding keyAt cells
+key-encode vs n i a l h =
+    let d : Version = unpack [] in
+    let v : Version = getD vs i d in
+    ap keyIn
+    (sym (rows-at (encode vs n) i (omega (arith, encode-length vs n l)))
+    ∙ ap (λ (bs : List (List ℕ)). getD bs i []) (rows-encode vs n l)
+    ∙ List·getD-append (map pack vs) (replicate (n - length vs) blank) [] i (simp length-map h)
+    ∙ getD-map pack vs i d [] h)
+    ∙ key-pack v (sound-at vs i d a h)
+    ∙ sym (getD-map keyFor vs i d 0 h)
+
+keys-encode : (vs : List Version) (n : ℕ) → AllSound vs → length vs ≤ n → keysOf (length vs) (encode vs n) ≡ keys vs
+keys-encode vs n a l =
+    ext-getD 0 (keysOf (length vs) (encode vs n)) (keys vs) (keys-length (length vs) (encode vs n) ∙ sym (length-map vs keyFor))
+    (λ i h.
+    let k : i < length vs = rw keys-length at h in
+    keys-at (length vs) (encode vs n) i k ∙ key-encode vs n i a l k)
+
+above-all : (k : ℕ) (vs : List Version) → RisingFrom k vs → (q : ℕ) → q < length vs → k < getD (keys vs) q 0
+above-all k [] r q h = absurd (not-suc-le-zero h)
+above-all k (v ∷ vs) r zero h = r .0
+above-all k (v ∷ vs) r (suc q) h = lt-trans (r .0) (above-all (keyFor v) vs (r .1) q (le-of-suc-le-suc h))
+
+all-rise : (k : ℕ) (vs : List Version) → RisingFrom k vs → (p q : ℕ) → p < q → q < length vs → getD (keys vs) p 0 < getD (keys vs) q 0
+all-rise k [] r p q l h = absurd (not-suc-le-zero h)
+all-rise k (v ∷ vs) r p zero l h = absurd (not-suc-le-zero l)
+all-rise k (v ∷ vs) r zero (suc q) l h = above-all (keyFor v) vs (r .1) q (le-of-suc-le-suc h)
+all-rise k (v ∷ vs) r (suc p) (suc q) l h = all-rise (keyFor v) vs (r .1) p q (le-of-suc-le-suc l) (le-of-suc-le-suc h)
+
+past-le : (b : Bool) (m n : ℕ) → m ≤ n → past b m ≤ suc n
+past-le true m n h = suc-le-suc h
+past-le false m n h = zero-le
+
+lower-le : (k : ℕ) (xs : List ℕ) → lowerOf k xs ≤ length xs
+unfolding lowerOf
+lower-le k [] = zero-le
+lower-le k (x ∷ xs) = past-le (ltb x k) (lowerOf k xs) (length xs) (lower-le k xs)
+
+pub place-le : (k : ℕ) (vs : List Version) → placeIn k vs ≤ length vs
+unfolding placeIn
+place-le k vs = subst (λ (j : ℕ). lowerOf k (keys vs) ≤ j) (length-map vs keyFor) (lower-le k (keys vs))
+
+module _ (t : List ℕ) (n : ℕ) (s : SoundTable t n) where
+  pub sound-good : Good (rowsIn t) (decode t)
+  sound-good = table-good (rowsIn t) (decode t) (s .sound)
+
+  sound-keys : keysOf n t ≡ keys (decode t)
+  sound-keys = ap₂ keysOf (sym (s .count)) (s .is) ∙ keys-encode (decode t) (rowsIn t) (sound-good .sound) (omega (arith, s .count, s .room))
+
+  pub sound-rises : Rises (keysOf n t)
+  unfolding Rises
+  sound-rises p q l h =
+      let k : q < length (decode t) = omega (arith, keys-length n t, s .count) in
+      rw sound-keys (all-rise 0 (decode t) (sound-good .rises) p q l k)
+
+  pub sound-place : (k : ℕ) → lowerOf k (keysOf n t) ≡ placeIn k (decode t)
+  unfolding placeIn
+  sound-place k = ap (lowerOf k) sound-keys
+
+  -- what `load` reads of a sound table
+  pub sound-load : (i : ℕ) (d : Version) → i < n → unpack (rowAt t i) ≡ getD (decode t) i d
+  sound-load i d h =
+      ap (λ (z : List ℕ). unpack (rowAt z i)) (s .is)
+      ∙ row-encode (decode t) (rowsIn t) i d (sound-good .sound) (omega (arith, s .count)) (omega (arith, s .count, s .room))

@@ -1,0 +1,57 @@
+// The place of a name among the used rows, by halves.
+use model::Id;
+use row::ROW;
+ghost use mathlib.Core.Path.{_≡_};
+ghost use Prim.Native.Nat.{_+_, _*_, _≤_, _<_};
+ghost use lib.ListN.{length};
+ghost use Rattle.row.specs.Size.{ROW};
+ghost use Rattle.row.specs.Layout.{keyOf};
+ghost use Rattle.table.specs.Table.{decode};
+ghost use Rattle.table.specs.Sound.{SoundTable};
+ghost use Rattle.table.specs.Find.{keyAt, keysOf, Rises, lowerOf, placeIn};
+
+// The key of row i: the highest 50 bits of its first word, and nothing else is read.
+fn key(t: &[u8], i: usize) -> u64
+    requires { ⌜ i * ROW + ROW ≤ length (now t) ⌝ }
+    ensures { λ r. ⌜ r ≡ keyAt (now (t .entry)) i ⌝ }
+{
+    let a = i * ROW;
+    let e = a + ROW;
+    octets::u64_at(&t[a..e], 0) / 16384
+}
+
+// The place of the first of n rows whose key is at least k, or n.
+fn lower(t: &[u8], n: usize, k: u64) -> usize
+    requires { ⌜ n * ROW ≤ length (now t) ⌝ }
+    requires { ⌜ Rises (keysOf n (now t)) ⌝ }
+    ensures { λ r. ⌜ r ≡ lowerOf k (keysOf n (now (t .entry))) ⌝ }
+{
+    let mut lo = 0;
+    let mut hi = n;
+    while lo < hi {
+        let mid = lo + (hi - lo) / 2;
+        if key(t, mid) < k {
+            lo = mid + 1;
+        } else {
+            hi = mid;
+        }
+    }
+    lo
+}
+
+// The place of the first version whose key is at least k, among the n of a sound table.
+pub fn from_key(t: &[u8], n: usize, k: u64) -> usize
+    requires { ⌜ SoundTable (now t) n ⌝ }
+    ensures { λ r. ⌜ r ≡ placeIn k (decode (now (t .entry))) ⌝ }
+{
+    lower(t, n, k)
+}
+
+// Where the version of that name is, or would be.
+pub fn place(t: &[u8], n: usize, k: Id) -> usize
+    requires { ⌜ SoundTable (now t) n ⌝ }
+    requires { ⌜ k .tn .0 < 17179869184 ⌝ }
+    ensures { λ r. ⌜ r ≡ placeIn (keyOf k) (decode (now (t .entry))) ⌝ }
+{
+    from_key(t, n, k.tn.0 * 65536 + k.number as u64)
+}
