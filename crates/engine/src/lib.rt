@@ -1,2 +1,3 @@
 // One step: check, read, decide, write.
+pub mod act;
 pub mod judge;

@@ -1,0 +1,50 @@
+-- What an accepted event leaves, and what the code that does it may count on.
+-- Assumes nothing.
+use mathlib.Core.Path.{_≡_}
+use Prim.Native.Nat.{ℕ, _<_, _≤_}
+use mathlib.Core.Bool.{Bool, true, cond}
+use mathlib.Core.List.{List}
+use Rattle.model.specs.Basics.{All, first, isNone}
+use Rattle.model.specs.Books.{Books}
+use Rattle.model.specs.Table.{changes, rowsOf, others}
+use Rattle.model.specs.Sound.{live, worked}
+use Rattle.model.specs.Given.{Result, nameIn, newest}
+use Rattle.model.specs.Creates.{creates}
+use Rattle.model.specs.Closing.{open?, takesOver, settled, settles}
+use Rattle.model.specs.Step.{manages}
+use Rattle.model.proofs.SoundRows.{Row}
+use Rattle.model.proofs.SoundLaws.{Brings}
+use Rattle.table.specs.Table.{decode, encode}
+use Rattle.table.specs.Sound.{rowsIn, itself}
+use Rattle.table.specs.Survey.{Found, versionAt}
+use Rattle.table.specs.declared.survey.Seen.{Seen}
+use Rattle.table.specs.declared.survey.Seen.the-variants.{Nobody, One}
+use Rattle.telling.specs.Telling.{Told}
+use Rattle.model.specs.declared.Id.{Id}
+use Rattle.model.specs.declared.Event.{Event}
+use Rattle.model.specs.declared.Version.{Version}
+
+-- the table's bytes are those of what the result makes of it, the tray has its messages, and so many they are
+pub record Acted (x : Result) (t y after trayAfter : List ℕ) (r : ℕ) : Type 0 where
+  pub table : after ≡ encode (changes (x .does) (decode t)) (rowsIn t)
+  pub told : Told (x .sent) 0 y trayAfter r
+
+-- a sound version w may be put at place i of n: the version there has its name
+pub record Fit (t : List Version) (n i : ℕ) (w : Version) : Type 0 where
+  pub place : i < n
+  pub name : versionAt t i .id ≡ w .id
+  pub row : Row w
+
+-- the other rows of the number of a name
+abbrev pub othersOf : Id → List Version → List Version
+othersOf k t = others k (rowsOf itself (k .tn .0) t)
+
+-- the live version that the close of w makes old, if any
+abbrev pub replacedBy : Version → Seen → Seen
+replacedBy w lives = cond (open? w) Nobody (cond (takesOver w) lives Nobody)
+
+-- w settles at place i, and `lives` is the other live version
+pub record Settling (t : List Version) (n i : ℕ) (w : Version) (lives : Seen) : Type 0 where
+  pub fit : Fit t n i (settled w)
+  pub live : Found t lives (first live (othersOf (w .id) t))
+  pub rows : All (Brings Row) (settles w (othersOf (w .id) t))
