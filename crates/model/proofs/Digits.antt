@@ -87,12 +87,13 @@ octal-shape : (q d w : ℕ) → withOctal q d w ≡ (w / 8 ^ q / 8 * 8 + d) * 8 
 unfolding withOctal octal
 octal-shape q d w =
     rw eight
-    (omega
-    (arith,
-    div-add-mod' w (8 ^ q),
-    ap (λ (n : ℕ). n * 8 ^ q) (div-add-mod' (w / 8 ^ q) 8),
-    add-mul (w / 8 ^ q / 8 * 8) (w / 8 ^ q % 8) (8 ^ q),
-    add-mul (w / 8 ^ q / 8 * 8) d (8 ^ q)))
+    (omega (
+      arith,
+      div-add-mod' w (8 ^ q),
+      ap (λ (n : ℕ). n * 8 ^ q) (div-add-mod' (w / 8 ^ q) 8),
+      add-mul (w / 8 ^ q / 8 * 8) (w / 8 ^ q % 8) (8 ^ q),
+      add-mul (w / 8 ^ q / 8 * 8) d (8 ^ q),
+    ))
 
 taken : (q d w : ℕ) → withOctal q d w ≡ w - octal q w * 8 ^ q + d * 8 ^ q
 unfolding withOctal
@@ -219,10 +220,13 @@ module _ (r : Retries) (p d : ℕ) (h : d < 8) where
     where
       words : List Bool
       words = ltb (r .low) (2 ^ 63) ∷ ltb (r .mid) (2 ^ 63) ∷ ltb (r .high) (2 ^ 63) ∷ []
+
       of : (i : ℕ) → getD words i true ≡ true
       of = conj-at words k
+
       fits : (q w : ℕ) → q < 21 → ltb w (2 ^ 63) ≡ true → ltb (withOctal q d w) (2 ^ 63) ≡ true
       fits q w t u = lt-ltb (withOctal q d w) (2 ^ 63) (octal-fits q d w t h (ltb-true w (2 ^ 63) u))
+
       go : (a : Bool) → leb p 21 ≡ a → (b : Bool) → leb p 42 ≡ b → retriesInRange (withUsed r p d) ≡ true
       go true e b f =
           rw e
@@ -243,6 +247,7 @@ used-none p = go (leb p 21) (leb p 42)
   where
     zeros : (q : ℕ) → 0 / 2 ^ (3 * q) % 8 ≡ 0
     zeros q = ap (λ (x : ℕ). x % 8) (zero-div (2 ^ (3 * q)))
+
     go : (a b : Bool) → octal (cond a (p - 1) (cond b (p - 22) (p - 43))) (cond a 0 (cond b 0 0)) ≡ 0
     go true b = zeros (p - 1)
     go false true = zeros (p - 22)

@@ -43,7 +43,7 @@ module _ (e : Event) (h : wellFormed e ≡ true) where
   fields =
       let all : List Bool = fitsBits e ∷ tenDigits (e .tn .0) ∷ named (e .time) ∷ kindFits e ∷ [] in
       let bits : List Bool = ltb (e .kind) (2 ^ 8) ∷ ltb (e .sender) (2 ^ 6) ∷ ltb (e .other) (2 ^ 6) ∷ ltb (e .mark) (2 ^ 2) ∷ ltb (e .cause) (2 ^ 8)
-          ∷ ltb (e .tn .0) (2 ^ 34) ∷ ltb (e .lrn .0) (2 ^ 34) ∷ ltb (e .version) (2 ^ 16) ∷ ltb (e .time) (2 ^ 32) ∷ ltb (e .due) (2 ^ 32) ∷ [] in
+      ∷ ltb (e .tn .0) (2 ^ 34) ∷ ltb (e .lrn .0) (2 ^ 34) ∷ ltb (e .version) (2 ^ 16) ∷ ltb (e .time) (2 ^ 32) ∷ ltb (e .due) (2 ^ 32) ∷ [] in
       let of : (i : ℕ) → getD all i true ≡ true = conj-at all h in
       let bit : (i : ℕ) → getD bits i true ≡ true = conj-at bits (of 0) in
       record {

@@ -13,3 +13,17 @@ pub mod SoundRows
 pub mod SoundSets
 pub mod SoundCasts
 pub mod SoundAnswers
+pub mod SoundOpened
+pub mod SoundLines
+pub mod SoundLaws
+pub mod SoundSides
+pub mod SoundFresh
+pub mod SoundKinds
+pub mod SoundStep
+pub mod SoundTables
+pub mod Reordering
+pub mod Effects
+pub mod Entries
+pub mod Cells
+pub mod Worked
+pub mod Theorems

@@ -99,7 +99,7 @@ module _ (lineOf : ℕ → ℕ) (l : ℕ) where
   near-settles v others h =
       all-cond (open? v) none (all-cond (takesOver v) (all-map In (retiring v) (all-keep live h) (λ a q. q)) none)
 
-  adds-settles : (v : Version) (others : List Version) → adds (settles v others) ≡ 0
+  pub adds-settles : (v : Version) (others : List Version) → adds (settles v others) ≡ 0
   unfolding settles retires
   adds-settles v others = go (open? v) (takesOver v)
     where
@@ -111,10 +111,10 @@ module _ (lineOf : ℕ → ℕ) (l : ℕ) where
   fine-settles : (v : Version) (others : List Version) (ms : List Message) → In v → Rows lineOf l others → Mail ms
       → Fine lineOf l (accept (ms ++ settlingTold v) (put (settled v) ∷ settles v others))
   fine-settles v others ms h k m = record {
-        near = with (in-settled v h) (near-settles v others k);
-        about = all-append m (mail-settling v h);
-        grows = omega (arith, adds-settles v others);
-      }
+    near = with (in-settled v h) (near-settles v others k);
+    about = all-append m (mail-settling v h);
+    grows = omega (arith, adds-settles v others);
+  }
 
 -- ---- kind by kind
 module _ (lineOf : ℕ → ℕ) (e : Event) where

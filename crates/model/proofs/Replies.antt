@@ -122,6 +122,7 @@ answer-create k h = go (eqb k 11) refl (eqb k 12) refl
   where
     at : (n : ℕ) → k ≡ n → isCreate n ≡ false → isCreate k ≡ false
     at n e q = subst (λ (m : ℕ). isCreate m ≡ false) (sym e) q
+
     go : (a : Bool) → eqb k 11 ≡ a → (b : Bool) → eqb k 12 ≡ b → isCreate k ≡ false
     go true p b q = at 11 (eqb-true k 11 p) refl
     go false p true q = at 12 (eqb-true k 12 q) refl
@@ -160,14 +161,14 @@ module _ (line : ℕ → ℕ) (s : Setting) where
       → S f (A e t) ≡ accept (b ++ m) (put z ∷ cs) → S e (A f t) ≡ accept (a ++ m) (put z ∷ cs) → x .id ≡ z .id → y .id ≡ z .id
       → ((w : Bool) (i n : ℕ) → mailOf w i n a ++ mailOf w i n b ≡ mailOf w i n b ++ mailOf w i n a) → Both e f t
   both e f t a b m x y z cs p q p′ q′ hx hy sw = record {
-        tables = ap₂ (λ (u w : Result). changes (w .does) (changes (u .does) t)) p p′ ∙ ap (changes cs) (put-cover z x t hx ∙ sym (put-cover z y t hy))
-            ∙ sym (ap₂ (λ (u w : Result). changes (w .does) (changes (u .does) t)) q q′);
-        first = ap (λ (u : Result). u .out) q′ ∙ sym (ap (λ (u : Result). u .out) p);
-        second = ap (λ (u : Result). u .out) p′ ∙ sym (ap (λ (u : Result). u .out) q);
-        mail = λ w i n. ap₂ (λ (u v : Result). mailOf w i n (u .sent ++ v .sent)) p p′ ∙ parts w i n a b
-            ∙ ap (λ (l : List Message). l ++ mailOf w i n m) (sw w i n) ∙ sym (parts w i n b a)
-            ∙ sym (ap₂ (λ (u v : Result). mailOf w i n (u .sent ++ v .sent)) q q′);
-      }
+    tables = ap₂ (λ (u w : Result). changes (w .does) (changes (u .does) t)) p p′ ∙ ap (changes cs) (put-cover z x t hx ∙ sym (put-cover z y t hy))
+        ∙ sym (ap₂ (λ (u w : Result). changes (w .does) (changes (u .does) t)) q q′);
+    first = ap (λ (u : Result). u .out) q′ ∙ sym (ap (λ (u : Result). u .out) p);
+    second = ap (λ (u : Result). u .out) p′ ∙ sym (ap (λ (u : Result). u .out) q);
+    mail = λ w i n. ap₂ (λ (u v : Result). mailOf w i n (u .sent ++ v .sent)) p p′ ∙ parts w i n a b
+        ∙ ap (λ (l : List Message). l ++ mailOf w i n m) (sw w i n) ∙ sym (parts w i n b a)
+        ∙ sym (ap₂ (λ (u v : Result). mailOf w i n (u .sent ++ v .sent)) q q′);
+  }
     where
       parts : (w : Bool) (i n : ℕ) (a b : List Message) → mailOf w i n (a ++ (b ++ m)) ≡ mailOf w i n a ++ mailOf w i n b ++ mailOf w i n m
       parts w i n a b = simp (keep-append, append-assoc)
@@ -220,7 +221,7 @@ module _ (line : ℕ → ℕ) (s : Setting) where
           (λ (m : ℕ). find k (rowsOf line m t) ≡ some v → S g t ≡ unless (unheard g v) (answers (s .most) g v (others k (rowsOf line m t)))) own
           (subst
           (λ (j : Id). find j (rowsOf line (line (g .tn .0)) t) ≡ some v
-              → S g t ≡ unless (unheard g v) (answers (s .most) g v (others j (rowsOf line (line (g .tn .0)) t)))) name (found-is _ _ v)) h
+          → S g t ≡ unless (unheard g v) (answers (s .most) g v (others j (rowsOf line (line (g .tn .0)) t)))) name (found-is _ _ v)) h
 
       if-deaf : (t : List Version) (v : Version) → find k (rowsOf line l t) ≡ some v → isDone (unheard g v) ≡ false → S g t ≡ refuse (unheard g v)
       if-deaf t v h u = if-found t v h ∙ rw u
@@ -281,6 +282,7 @@ module _ (line : ℕ → ℕ) (s : Setting) where
       where
         p : S e t ≡ refuse (unheard e v)
         p = if-deaf e (ye .isA) k (ye .name) l (ye .own) (ye .free) t v h ue
+
         go : (b : Bool) → isDone (unheard f v) ≡ b → S e (A f t) ≡ refuse (unheard e v)
         go true q =
             let uf : unheard f v ≡ Done = done-is (unheard f v) q in
@@ -349,6 +351,7 @@ module _ (line : ℕ → ℕ) (s : Setting) where
         at v h false p b q = deaf e f v ye yf d h p
         at v h true p false q = turned (stepBy line (ruleIn s) (s .rows)) (deaf f e v yf ye (λ x. d (sym x)) h q)
         at v h true p true q = both-heard v h e f ye yf d (done-is (unheard e v) p) (done-is (unheard f v) q)
+
         go : (o : Option Version) → find k R ≡ o → Both e f t
         go nothing h = lost e f ye yf h
         go (some v) h = at v h (isDone (unheard e v)) refl (isDone (unheard f v)) refl
@@ -363,6 +366,7 @@ module _ (line : ℕ → ℕ) (s : Setting) where
             by : (a : Bool) → wellFormed g ≡ a → isDone (cond a (cond (absent (s .books) g) Absent Done) Malformed) ≡ true → wellFormed g ≡ true
             by true p q = p
             by false p q = clash q
+
         go : (a : Bool) → isDone (barred e) ≡ a → (b : Bool) → isDone (barred f) ≡ b → Both e f t
         go false p b q = quiet e f t (barred e) (if-barred e ae k ne l oe t p) (if-barred e ae k ne l oe (A f t) p)
         go true p false q =

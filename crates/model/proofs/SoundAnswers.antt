@@ -54,10 +54,10 @@ pairs c = apart (c .confirmed) (c .waiting) ∷ apart (c .confirmed) (c .failed)
 pub parted-of : (c : Broadcast) → setsApart c ≡ true → Parted c
 unfolding setsApart
 parted-of c h = record {
-      cw = apart-says (c .confirmed) (c .waiting) (conj-at (pairs c) h 0);
-      cf = apart-says (c .confirmed) (c .failed) (conj-at (pairs c) h 1);
-      wf = apart-says (c .waiting) (c .failed) (conj-at (pairs c) h 2);
-    }
+  cw = apart-says (c .confirmed) (c .waiting) (conj-at (pairs c) h 0);
+  cf = apart-says (c .confirmed) (c .failed) (conj-at (pairs c) h 1);
+  wf = apart-says (c .waiting) (c .failed) (conj-at (pairs c) h 2);
+}
 
 pub of-parted : (c : Broadcast) → Parted c → setsApart c ≡ true
 unfolding setsApart
@@ -76,29 +76,30 @@ module _ (p d : ℕ) (l : 1 ≤ p) (m : p < 64) (h : d < 8) (c : Broadcast) (w :
   parted-moves : (again success : Bool) (n : ℕ) → Parted (moves again success p n c)
   parted-moves true success n = record { cw = r .cw; cf = r .cf; wf = r .wf }
   parted-moves false true n = record {
-        cw = apart-with (c .confirmed) (c .waiting - 2 ^ p) p (apart-without-r (c .confirmed) (c .waiting) p (r .cw) w) out-c (without-same (c .waiting) p w);
-        cf = apart-with (c .confirmed) (c .failed) p (r .cf) out-c out-f;
-        wf = apart-without (c .waiting) (c .failed) p (r .wf) w;
-      }
+    cw = apart-with (c .confirmed) (c .waiting - 2 ^ p) p (apart-without-r (c .confirmed) (c .waiting) p (r .cw) w) out-c (without-same (c .waiting) p w);
+    cf = apart-with (c .confirmed) (c .failed) p (r .cf) out-c out-f;
+    wf = apart-without (c .waiting) (c .failed) p (r .wf) w;
+  }
   parted-moves false false n = record {
-        cw = apart-without-r (c .confirmed) (c .waiting) p (r .cw) w;
-        cf = apart-with-r (c .confirmed) (c .failed) p (r .cf) out-c out-f;
-        wf = apart-with-r (c .waiting - 2 ^ p) (c .failed) p (apart-without (c .waiting) (c .failed) p (r .wf) w) (without-same (c .waiting) p w) out-f;
-      }
+    cw = apart-without-r (c .confirmed) (c .waiting) p (r .cw) w;
+    cf = apart-with-r (c .confirmed) (c .failed) p (r .cf) out-c out-f;
+    wf = apart-with-r (c .waiting - 2 ^ p) (c .failed) p (apart-without (c .waiting) (c .failed) p (r .wf) w) (without-same (c .waiting) p w) out-f;
+  }
 
   ranges-moves : (again success : Bool) (n : ℕ) → cond again (n + 1) 0 < 8 → CastRanges c → CastRanges (moves again success p n c)
   ranges-moves a s n k x = record {
-        purpose = x .purpose;
-        start = x .start;
-        confirmed = put (not a && s) (c .confirmed) (x .confirmed) out-c;
-        waiting = take a;
-        failed = put (not a && not s) (c .failed) (x .failed) out-f;
-        retries = used-fits (c .retries) p (cond a (n + 1) 0) k l (omega arith) (x .retries);
-      }
+    purpose = x .purpose;
+    start = x .start;
+    confirmed = put (not a && s) (c .confirmed) (x .confirmed) out-c;
+    waiting = take a;
+    failed = put (not a && not s) (c .failed) (x .failed) out-f;
+    retries = used-fits (c .retries) p (cond a (n + 1) 0) k l (omega arith) (x .retries);
+  }
     where
       put : (b : Bool) (s : ℕ) → isSet s ≡ true → member s p ≡ false → isSet (cond b (s + 2 ^ p) s) ≡ true
       put true s i o = set-with s p i l m o
       put false s i o = i
+
       take : (b : Bool) → isSet (cond b (c .waiting) (c .waiting - 2 ^ p)) ≡ true
       take true = x .waiting
       take false = set-without (c .waiting) p (x .waiting) l w
@@ -113,12 +114,15 @@ module _ (p d : ℕ) (l : 1 ≤ p) (m : p < 64) (h : d < 8) (c : Broadcast) (w :
       or-r : (b : Bool) → (b || true) ≡ true
       or-r true = refl
       or-r false = refl
+
       same : (b : Bool) → cond b (n + 1) 0 < 8 → (member (cond b (c .waiting) (c .waiting - 2 ^ p)) p || eqb (used (withUsed (c .retries) p (cond b (n + 1) 0)) p) 0) ≡ true
       same true k = rw w
       same false k = ap (λ (b : Bool). member (c .waiting - 2 ^ p) p || b) (eq-eqb _ 0 (used-same (c .retries) p 0 k)) ∙ or-r (member (c .waiting - 2 ^ p) p)
+
       kept : (q : ℕ) → (q ≡ p → ⊥) → (b : Bool) → member (cond b (c .waiting) (c .waiting - 2 ^ p)) q ≡ member (c .waiting) q
       kept q ne true = refl
       kept q ne false = without-other (c .waiting) p q w ne
+
       go : (q : ℕ) → 1 ≤ q → q ≤ 63 → (b : Bool) → eqb q p ≡ b → fitting (moves a s p n c) q ≡ true
       go q lq mq true e = subst (λ (j : ℕ). fitting (moves a s p n c) j ≡ true) (sym (eqb-true q p e)) (same a k)
       go q lq mq false e =
@@ -142,43 +146,46 @@ module _ (most : ℕ) (small : most ≤ 7) (e : Event) (v : Version) (row : Row 
   pub casting-heard : Casting (heard most e v)
   unfolding heard moved
   casting-heard = record {
-        ranges = record {
-          tn = row .ranges .tn;
-          number = row .ranges .number;
-          status = row .ranges .status;
-          stamp = time-max (v .stamp) (e .time) (row .ranges .stamp) time;
-          new = row .ranges .new;
-          old = row .ranges .old;
-          canceller = row .ranges .canceller;
-          cast = ranges-cast (moved most e (v .cast))
-              (ranges-moves (answering e) 0 l m (omega arith) (v .cast) aw parts (again most e (v .cast)) (succeeds e) (used (v .cast .retries) (answering e))
-              (retries-fit most small e (v .cast)) (cast-ranges (v .cast) (row .ranges .cast)));
-        };
-        differ = row .differ;
-        new = row .new;
-        old = row .old;
-        created = purposed-created v row (back (λ (s : ℕ). isPurposed s ≡ true) refl);
-        cause = row .cause;
-        sending = is-sending;
-        uncancelled = no-canceller v row (back (λ (s : ℕ). eqb s cancelPending ≡ false) refl);
-        apart = of-parted (moved most e (v .cast))
-            (parted-moves (answering e) 0 l m (omega arith) (v .cast) aw parts (again most e (v .cast)) (succeeds e) (used (v .cast .retries) (answering e)));
-        retries = fits-moves (answering e) 0 l m (omega arith) (v .cast) aw parts (again most e (v .cast)) (succeeds e) (used (v .cast .retries) (answering e))
-            (retries-fit most small e (v .cast)) (row .retries);
-        start = iff-true (ltb 0 (v .cast .start)) (rw is-sending at (row .start));
-        aimed = iff-true (ltb 0 (v .cast .purpose)) (at3 (λ (s : ℕ). iff (ltb 0 (v .cast .purpose)) (isPurposed s) ≡ true)
-            (and-l (iff (ltb 0 (v .cast .purpose)) (isPurposed (v .status))) _ (row .purpose)));
-        lasting = rw is-sending at (row .live);
-        confirmed = more (v .live && eqb (v .cast .purpose) activate) (not (again most e (v .cast)) && succeeds e) (row .confirmed);
-      }
+    ranges = record {
+      tn = row .ranges .tn;
+      number = row .ranges .number;
+      status = row .ranges .status;
+      stamp = time-max (v .stamp) (e .time) (row .ranges .stamp) time;
+      new = row .ranges .new;
+      old = row .ranges .old;
+      canceller = row .ranges .canceller;
+      cast = ranges-cast (moved most e (v .cast))
+          (ranges-moves (answering e) 0 l m (omega arith) (v .cast) aw parts (again most e (v .cast)) (succeeds e) (used (v .cast .retries) (answering e))
+          (retries-fit most small e (v .cast)) (cast-ranges (v .cast) (row .ranges .cast)));
+    };
+    differ = row .differ;
+    new = row .new;
+    old = row .old;
+    created = purposed-created v row (back (λ (s : ℕ). isPurposed s ≡ true) refl);
+    cause = row .cause;
+    sending = is-sending;
+    uncancelled = no-canceller v row (back (λ (s : ℕ). eqb s cancelPending ≡ false) refl);
+    apart = of-parted (moved most e (v .cast))
+        (parted-moves (answering e) 0 l m (omega arith) (v .cast) aw parts (again most e (v .cast)) (succeeds e) (used (v .cast .retries) (answering e)));
+    retries = fits-moves (answering e) 0 l m (omega arith) (v .cast) aw parts (again most e (v .cast)) (succeeds e) (used (v .cast .retries) (answering e))
+        (retries-fit most small e (v .cast)) (row .retries);
+    start = iff-true (ltb 0 (v .cast .start)) (rw is-sending at (row .start));
+    aimed = iff-true (ltb 0 (v .cast .purpose)) (at3 (λ (s : ℕ). iff (ltb 0 (v .cast .purpose)) (isPurposed s) ≡ true)
+        (and-l (iff (ltb 0 (v .cast .purpose)) (isPurposed (v .status))) _ (row .purpose)));
+    lasting = rw is-sending at (row .live);
+    confirmed = more (v .live && eqb (v .cast .purpose) activate) (not (again most e (v .cast)) && succeeds e) (row .confirmed);
+  }
     where
       parts : Parted (v .cast)
       parts = parted-of (v .cast) (row .apart)
+
       back : (P : ℕ → Type 0) → P 3 → P (v .status)
       back P h = subst P (sym (eqb-true (v .status) 3 is-sending)) h
+
       iff-true : (b : Bool) → iff b true ≡ true → b ≡ true
       iff-true true h = refl
       iff-true false h = h
+
       -- a live version that is sending has a confirmed system, and keeps it
       more : (x b : Bool) → implies x (ltb 0 (v .cast .confirmed) || (eqb (v .cast .waiting) 0 && eqb (v .cast .failed) 0)) ≡ true
           → implies x (ltb 0 (cond b (v .cast .confirmed + 2 ^ answering e) (v .cast .confirmed)) || (eqb (moved most e (v .cast) .waiting) 0 && eqb (moved most e (v .cast) .failed) 0)) ≡ true
@@ -193,8 +200,10 @@ module _ (most : ℕ) (small : most ≤ 7) (e : Event) (v : Version) (row : Row 
           one-of : (a b : Bool) → a ≡ true → (a || b) ≡ true
           one-of true b h = refl
           one-of false b h = clash h
+
           some-not : (s : ℕ) → ltb 0 s ≡ true → eqb s 0 ≡ false
           some-not s h = some-zero s ∙ ap not h
+
           first : (a b : Bool) → (a || (false && b)) ≡ true → a ≡ true
           first true b h = refl
           first false b h = h

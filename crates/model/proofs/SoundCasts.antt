@@ -51,32 +51,32 @@ waits s h = not-not (ltb 0 s) (ap not (sym (some-zero s)) ∙ h)
 pub row-open : (w : Version) → Casting w → open? w ≡ true → Row w
 unfolding sidesNeeded
 row-open w c o = record {
-      ranges = c .ranges;
-      differ = c .differ;
-      new = c .new;
-      old = c .old;
-      one = one-of (w .new .created) (w .old .created) (c .created);
-      needed =
-          at-sending
-          (λ (s : ℕ).
-              (implies (eqb s conflict) (w .old .created) && implies (eqb s cancelPending) (w .new .created && w .old .created)
-              && implies (isPurposed s || eqb s old) (w .new .created))
-              ≡ true)
-          (w .status) (c .sending) (c .created);
-      cause = c .cause;
-      canceller = rw (c .uncancelled) (at-sending (λ (s : ℕ). iff false (eqb s cancelPending) ≡ true) (w .status) (c .sending) refl);
-      apart = c .apart;
-      retries = c .retries;
-      start = rw (c .start) (c .sending);
-      waiting = rw (waits (w .cast .waiting) o) (c .sending);
-      purpose =
-          at-sending
-          (λ (s : ℕ).
-              (iff (ltb 0 (w .cast .purpose)) (isPurposed s) && implies (among s (failure ∷ partialFailure ∷ [])) (eqb (w .cast .purpose) activate)) ≡ true)
-          (w .status) (c .sending) (rw (c .aimed));
-      live = rw (c .sending) (c .lasting);
-      confirmed = c .confirmed;
-    }
+  ranges = c .ranges;
+  differ = c .differ;
+  new = c .new;
+  old = c .old;
+  one = one-of (w .new .created) (w .old .created) (c .created);
+  needed =
+      at-sending
+      (λ (s : ℕ).
+      (implies (eqb s conflict) (w .old .created) && implies (eqb s cancelPending) (w .new .created && w .old .created)
+      && implies (isPurposed s || eqb s old) (w .new .created))
+      ≡ true)
+      (w .status) (c .sending) (c .created);
+  cause = c .cause;
+  canceller = rw (c .uncancelled) (at-sending (λ (s : ℕ). iff false (eqb s cancelPending) ≡ true) (w .status) (c .sending) refl);
+  apart = c .apart;
+  retries = c .retries;
+  start = rw (c .start) (c .sending);
+  waiting = rw (waits (w .cast .waiting) o) (c .sending);
+  purpose =
+      at-sending
+      (λ (s : ℕ).
+      (iff (ltb 0 (w .cast .purpose)) (isPurposed s) && implies (among s (failure ∷ partialFailure ∷ [])) (eqb (w .cast .purpose) activate)) ≡ true)
+      (w .status) (c .sending) (rw (c .aimed));
+  live = rw (c .sending) (c .lasting);
+  confirmed = c .confirmed;
+}
 
 -- ---- the close
 
@@ -96,17 +96,17 @@ pub record AtClose (s : ℕ) (a b act : Bool) : Type 0 where
 
 close-old : (a b act : Bool) → AtClose old a b act
 close-old a b act = record {
-      small = refl;
-      not-sending = refl;
-      not-worked = refl;
-      no1 = refl;
-      no2 = refl;
-      few = λ p h. refl;
-      aims = λ p h. refl;
-      activates = λ p h. refl;
-      live = refl;
-      confirms = λ p h. refl;
-    }
+  small = refl;
+  not-sending = refl;
+  not-worked = refl;
+  no1 = refl;
+  no2 = refl;
+  few = λ p h. refl;
+  aims = λ p h. refl;
+  activates = λ p h. refl;
+  live = refl;
+  confirms = λ p h. refl;
+}
 
 -- every other status at the close keeps the purpose
 close-kept : (s : ℕ) (a b act : Bool) → among s (failure ∷ partialFailure ∷ active ∷ []) ≡ true
@@ -116,24 +116,26 @@ close-kept s a b act m f k = go (eqb s 4) refl (eqb s 5) refl (eqb s 6) refl
   where
     at : (n : ℕ) → eqb s n ≡ true → AtClose n a b act → AtClose s a b act
     at n e r = subst (λ (j : ℕ). AtClose j a b act) (sym (eqb-true s n e)) r
+
     kept : (n : ℕ) → eqb s n ≡ true → eqb n old ≡ false → leb n 8 ≡ true → isSending n ≡ false → isWorked n ≡ false → eqb n conflict ≡ false
         → eqb n cancelPending ≡ false → isPurposed n ≡ true → (x : Bool) → among n (partialFailure ∷ active ∷ []) ≡ x → AtClose n a b act
     kept n e n7 l n3 w n1 n2 u x y = record {
-          small = l;
-          not-sending = n3;
-          not-worked = w;
-          no1 = n1;
-          no2 = n2;
-          few = λ p h. rw n7 h;
-          aims = λ p h. rw (n7, h, u);
-          activates = λ p h. rw (n7, h) (subst (λ (j : ℕ). implies (among j (failure ∷ partialFailure ∷ [])) act ≡ true) (eqb-true s n e) f);
-          live = rw y (same x);
-          confirms = λ p h. rw (n7, h) (subst (λ (j : ℕ). implies (among j (partialFailure ∷ active ∷ []) && act) (not b || (true && a)) ≡ true) (eqb-true s n e) k);
-        }
+      small = l;
+      not-sending = n3;
+      not-worked = w;
+      no1 = n1;
+      no2 = n2;
+      few = λ p h. rw n7 h;
+      aims = λ p h. rw (n7, h, u);
+      activates = λ p h. rw (n7, h) (subst (λ (j : ℕ). implies (among j (failure ∷ partialFailure ∷ [])) act ≡ true) (eqb-true s n e) f);
+      live = rw y (same x);
+      confirms = λ p h. rw (n7, h) (subst (λ (j : ℕ). implies (among j (partialFailure ∷ active ∷ []) && act) (not b || (true && a)) ≡ true) (eqb-true s n e) k);
+    }
       where
         same : (z : Bool) → iff z z ≡ true
         same true = refl
         same false = refl
+
     go : (x : Bool) → eqb s 4 ≡ x → (y : Bool) → eqb s 5 ≡ y → (z : Bool) → eqb s 6 ≡ z → AtClose s a b act
     go true p y q z r = at 4 p (kept 4 p refl refl refl refl refl refl refl false refl)
     go false p true q z r = at 5 q (kept 5 q refl refl refl refl refl refl refl true refl)
@@ -159,13 +161,13 @@ at-closed c = at-close (eqb (c .failed) 0) (eqb (c .confirmed) 0) (eqb (c .purpo
 -- a broadcast that ended in a status
 abbrev ended : ℕ → Broadcast → Broadcast
 ended s c = record {
-      purpose = cond (eqb s old) 0 (c .purpose);
-      start = 0;
-      confirmed = c .confirmed;
-      waiting = c .waiting;
-      failed = c .failed;
-      retries = c .retries;
-    }
+  purpose = cond (eqb s old) 0 (c .purpose);
+  start = 0;
+  confirmed = c .confirmed;
+  waiting = c .waiting;
+  failed = c .failed;
+  retries = c .retries;
+}
 
 pub row-closed : (w : Version) → Casting w → open? w ≡ false → Row (closed w)
 unfolding closed sidesNeeded setsApart retriesFit
@@ -173,64 +175,68 @@ row-closed w c o = go (closeTo (w .cast)) (at-closed (w .cast))
   where
     empty : eqb (w .cast .waiting) 0 ≡ true
     empty = not-false (eqb (w .cast .waiting) 0) o
+
     r : CastRanges (w .cast)
     r = cast-ranges (w .cast) (c .ranges .cast)
+
     none-waits : ltb 0 (w .cast .waiting) ≡ false
     none-waits = off (ltb 0 (w .cast .waiting)) (sym (some-zero (w .cast .waiting)) ∙ empty)
       where
         off : (b : Bool) → not b ≡ true → b ≡ false
         off true h = clash h
         off false h = refl
+
     some-confirmed : (b : Bool) → eqb (w .cast .confirmed) 0 ≡ b → ltb 0 (w .cast .confirmed) ≡ not b
     some-confirmed b e = turned (ltb 0 (w .cast .confirmed)) b (sym (some-zero (w .cast .confirmed)) ∙ e)
       where
         turned : (x b : Bool) → not x ≡ b → x ≡ not b
         turned true b q = ap not q
         turned false b q = ap not q
+
     go : (s : ℕ) → AtClose s (eqb (w .cast .failed) 0) (eqb (w .cast .confirmed) 0) (eqb (w .cast .purpose) activate) → Row (record {
-          id = w .id;
-          status = s;
-          stamp = w .stamp;
-          live = among s (partialFailure ∷ active ∷ []);
-          new = w .new;
-          old = w .old;
-          canceller = w .canceller;
-          window = w .window;
-          cast = ended s (w .cast);
-        })
+      id = w .id;
+      status = s;
+      stamp = w .stamp;
+      live = among s (partialFailure ∷ active ∷ []);
+      new = w .new;
+      old = w .old;
+      canceller = w .canceller;
+      window = w .window;
+      cast = ended s (w .cast);
+    })
     go s a = record {
-          ranges = record {
-            tn = c .ranges .tn;
-            number = c .ranges .number;
-            status = a .small;
-            stamp = c .ranges .stamp;
-            new = c .ranges .new;
-            old = c .ranges .old;
-            canceller = c .ranges .canceller;
-            cast = ranges-cast (ended s (w .cast)) (record {
-              purpose = a .few (w .cast .purpose) (r .purpose);
-              start = refl;
-              confirmed = r .confirmed;
-              waiting = r .waiting;
-              failed = r .failed;
-              retries = r .retries;
-            });
-          };
-          differ = c .differ;
-          new = c .new;
-          old = c .old;
-          one = one-of (w .new .created) (w .old .created) (c .created);
-          needed = rw (a .no1, a .no2) (need (isPurposed s || eqb s old) (c .created));
-          cause = c .cause;
-          canceller = rw (c .uncancelled, a .no2);
-          apart = c .apart;
-          retries = c .retries;
-          start = rw (a .not-sending);
-          waiting = rw (none-waits, a .not-sending);
-          purpose = both-true _ _ (a .aims (w .cast .purpose) (c .aimed)) (a .activates (w .cast .purpose) refl);
-          live = rw (a .not-sending) (a .live);
-          confirmed = rw (some-confirmed (eqb (w .cast .confirmed) 0) refl, empty) (a .confirms (w .cast .purpose) refl);
-        }
+      ranges = record {
+        tn = c .ranges .tn;
+        number = c .ranges .number;
+        status = a .small;
+        stamp = c .ranges .stamp;
+        new = c .ranges .new;
+        old = c .ranges .old;
+        canceller = c .ranges .canceller;
+        cast = ranges-cast (ended s (w .cast)) (record {
+          purpose = a .few (w .cast .purpose) (r .purpose);
+          start = refl;
+          confirmed = r .confirmed;
+          waiting = r .waiting;
+          failed = r .failed;
+          retries = r .retries;
+        });
+      };
+      differ = c .differ;
+      new = c .new;
+      old = c .old;
+      one = one-of (w .new .created) (w .old .created) (c .created);
+      needed = rw (a .no1, a .no2) (need (isPurposed s || eqb s old) (c .created));
+      cause = c .cause;
+      canceller = rw (c .uncancelled, a .no2);
+      apart = c .apart;
+      retries = c .retries;
+      start = rw (a .not-sending);
+      waiting = rw (none-waits, a .not-sending);
+      purpose = both-true _ _ (a .aims (w .cast .purpose) (c .aimed)) (a .activates (w .cast .purpose) refl);
+      live = rw (a .not-sending) (a .live);
+      confirmed = rw (some-confirmed (eqb (w .cast .confirmed) 0) refl, empty) (a .confirms (w .cast .purpose) refl);
+    }
       where
         need : (x : Bool) → w .new .created ≡ true → implies x (w .new .created) ≡ true
         need true h = h
@@ -251,6 +257,7 @@ settled-status s h = go (eqb s 5) refl (eqb s 6) refl
   where
     at : (n : ℕ) → eqb s n ≡ true → (isPurposed n ≡ true) × (eqb n cancelPending ≡ false) → (isPurposed s ≡ true) × (eqb s cancelPending ≡ false)
     at n e p = subst (λ (j : ℕ). (isPurposed j ≡ true) × (eqb j cancelPending ≡ false)) (sym (eqb-true s n e)) p
+
     go : (a : Bool) → eqb s 5 ≡ a → (b : Bool) → eqb s 6 ≡ b → (isPurposed s ≡ true) × (eqb s cancelPending ≡ false)
     go true p b q = at 5 p (refl, refl)
     go false p true q = at 6 q (refl, refl)

@@ -149,6 +149,7 @@ calm-worked s h = go (eqb s 0) refl (eqb s 1) refl (eqb s 2) refl
   where
     at : (n : ℕ) → eqb s n ≡ true → Calm n → Calm s
     at n e c = subst Calm (sym (eqb-true s n e)) c
+
     go : (a : Bool) → eqb s 0 ≡ a → (b : Bool) → eqb s 1 ≡ b → (c : Bool) → eqb s 2 ≡ c → Calm s
     go true p b q c r = at 0 p calm0
     go false p true q c r = at 1 q calm1
@@ -179,30 +180,30 @@ pub row-calm : (v : Version) (s t : ℕ) (n : NewSide) (o : OldSide) (c : ℕ) (
     → n .provider ≡ v .new .provider → o .provider ≡ v .old .provider → Sided s n o c → Row (restated v s t n o c x)
 unfolding sidesNeeded
 row-calm v s t n o c x row p q time pn po d = record {
-      ranges = record {
-        tn = row .ranges .tn;
-        number = row .ranges .number;
-        status = q .small;
-        stamp = time;
-        new = ap isProvider pn ∙ row .ranges .new;
-        old = ap isProvider po ∙ row .ranges .old;
-        canceller = d .small;
-        cast = row .ranges .cast;
-      };
-      differ = ap₂ (λ (a b : ℕ). not (eqb a b)) pn po ∙ row .differ;
-      new = d .new;
-      old = d .old;
-      one = d .one;
-      needed =
-          both-true (implies (eqb s conflict) (o .created) && implies (eqb s cancelPending) (n .created && o .created)) _
-          (both-true (implies (eqb s conflict) (o .created)) _ (d .clashing) (d .cancelling)) (rw (q .aimless, q .no7));
-      cause = d .cause;
-      canceller = d .canceller;
-      apart = row .apart;
-      retries = row .retries;
-      start = iff-at (ltb 0 (v .cast .start)) (p .no3 ∙ sym (q .no3)) (row .start);
-      waiting = iff-at (ltb 0 (v .cast .waiting)) (p .no3 ∙ sym (q .no3)) (row .waiting);
-      purpose = rw (q .aimless, q .no45) (rw (p .aimless, p .no45) at (row .purpose));
-      live = rw (q .no3, q .no56) (rw (p .no3, p .no56) at (row .live));
-      confirmed = row .confirmed;
-    }
+  ranges = record {
+    tn = row .ranges .tn;
+    number = row .ranges .number;
+    status = q .small;
+    stamp = time;
+    new = ap isProvider pn ∙ row .ranges .new;
+    old = ap isProvider po ∙ row .ranges .old;
+    canceller = d .small;
+    cast = row .ranges .cast;
+  };
+  differ = ap₂ (λ (a b : ℕ). not (eqb a b)) pn po ∙ row .differ;
+  new = d .new;
+  old = d .old;
+  one = d .one;
+  needed =
+      both-true (implies (eqb s conflict) (o .created) && implies (eqb s cancelPending) (n .created && o .created)) _
+      (both-true (implies (eqb s conflict) (o .created)) _ (d .clashing) (d .cancelling)) (rw (q .aimless, q .no7));
+  cause = d .cause;
+  canceller = d .canceller;
+  apart = row .apart;
+  retries = row .retries;
+  start = iff-at (ltb 0 (v .cast .start)) (p .no3 ∙ sym (q .no3)) (row .start);
+  waiting = iff-at (ltb 0 (v .cast .waiting)) (p .no3 ∙ sym (q .no3)) (row .waiting);
+  purpose = rw (q .aimless, q .no45) (rw (p .aimless, p .no45) at (row .purpose));
+  live = rw (q .no3, q .no56) (rw (p .no3, p .no56) at (row .live));
+  confirmed = row .confirmed;
+}

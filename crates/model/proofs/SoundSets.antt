@@ -129,6 +129,10 @@ unfolding both
 both-in a b p l m h =
     and-l (member a p) (member b p) (sym (mask-member (λ (q : ℕ). member a q && member b q) 63 p l m) ∙ h)
 
+pub set-both : (a b : ℕ) → isSet (both a b) ≡ true
+unfolding both
+set-both a b = set-mask (λ (p : ℕ). member a p && member b p)
+
 pub both-none : (b : ℕ) → both 0 b ≡ 0
 unfolding both maskOf
 both-none b = go 63

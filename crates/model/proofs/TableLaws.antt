@@ -151,6 +151,7 @@ find-other k (x ∷ xs) w n = go (order w.id x.id) refl (find-other k xs w n)
     at-hit e Ordering·lt f = rw (f, ← e, f)
     at-hit e Ordering·eq f = absurd (n (order-eq k w.id f))
     at-hit e Ordering·gt f = rw (f, ap (order k) (sym e) ∙ f)
+
     go : (o : Ordering) → order w.id x.id ≡ o → find k (change (put w) xs) ≡ find k xs → find k (change (put w) (x ∷ xs)) ≡ find k (x ∷ xs)
     go Ordering·lt e ih = rw e
     go Ordering·eq e ih = rw e (at-hit (order-eq w.id x.id e) (order k w.id) refl)

@@ -1,9 +1,9 @@
 -- Standing and status: the grid, and the finer conditions.
 -- Assumes nothing.
-use Prim.Native.Nat.{ℕ}
+use Prim.Native.Nat.{ℕ, _+_, _-_}
 use mathlib.Core.Bool.{Bool, true, false, cond, not, _&&_, _||_}
 use mathlib.Core.List.{List, [], _∷_}
-use lib.Dec.{eqb, leb}
+use lib.Dec.{eqb, ltb, leb}
 use Rattle.model.specs.Basics.{among}
 use Rattle.model.specs.Sound.{pending, conflict, cancelPending, failure, partialFailure, active, old, canceled}
 use Rattle.model.specs.declared.Event.{Event}
@@ -36,6 +36,16 @@ statusFor k s =
     (cond (eqb k 13) (among s (pending ∷ cancelPending ∷ []))
     (cond (eqb k 14) (among s (failure ∷ partialFailure ∷ active ∷ []))
     (among s (old ∷ canceled ∷ []))))))))
+
+-- the kinds of the grid, 3 to 10 and 13 to 15, and their places in it
+abbrev pub isGridKind : ℕ → Bool
+isGridKind k = (leb 3 k && leb k 10) || (leb 13 k && leb k 15)
+
+abbrev pub placeOf : ℕ → ℕ
+placeOf k = cond (ltb k 11) (k - 3) (k - 5)
+
+abbrev pub kindAt : ℕ → ℕ
+kindAt j = cond (ltb j 8) (j + 3) (j + 5)
 
 -- The grid: 6 wherever the standing is wrong, else 7 wherever the status is, else 0. [G2, H6]
 unfoldable pub gridRule : ℕ → ℕ → ℕ → ℕ

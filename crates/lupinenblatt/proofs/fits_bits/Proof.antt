@@ -1,0 +1,11 @@
+use mathlib.Core.Path.{refl}
+use Rattle.model.specs.Record.{fitsBits}
+use Rattle.lupinenblatt.proofs.fits_bits.Statement.{statement}
+use Rattle.lupinenblatt.proofs.fits_bits.Tie as tie
+
+returns : tie.Need-returns
+unfolding fitsBits
+returns c = refl
+
+pub fits-bits-spec : {M : Type 1} → statement M
+fits-bits-spec = tie.close (tie.spec returns)

@@ -1,0 +1,91 @@
+-- The grid's 297 entries, and the rule at all of them: one test that antt computes. [H6]
+-- Assumes nothing.
+use mathlib.Core.Path.{_≡_, _∙_, ap, ap₂, refl}
+use mathlib.Core.List.{List, [], _∷_}
+use mathlib.Core.Bool.{Bool, true, false, cond, _&&_, _||_}
+use Prim.Native.Nat.{ℕ, _+_, _*_, _/_, _%_, _-_, _<_, _≤_}
+use native.Mathlib.Omega.{arith}
+use borrow.Author.Tests.{ltb-true, lt-ltb, le-ltb, leb-true, lt-leb, ne-eqb}
+use lib.Dec.{eqb, eqb→eq, ltb, leb}
+use lib.ListN.{getD, length}
+use Rattle.model.specs.Standing.{gridRule, isGridKind, placeOf, kindAt, statusFor}
+use Rattle.model.specs.Basics.{among}
+use Rattle.model.proofs.Lists.{clash}
+use Rattle.model.proofs.Entries.{at}
+
+unfoldable pub cells : List ℕ
+cells =
+    0 ∷ 6 ∷ 6 ∷ 6 ∷ 0 ∷ 6 ∷ 0 ∷ 6 ∷ 6 ∷ 0 ∷ 0 ∷ 6 ∷ 7 ∷ 7 ∷ 6 ∷ 7 ∷ 7 ∷ 6 ∷ 7 ∷ 6 ∷ 6 ∷ 7 ∷ 6 ∷ 6 ∷ 6 ∷ 6 ∷ 0 ∷ 6 ∷ 6 ∷ 7 ∷ 6 ∷ 6 ∷ 7 ∷
+    0 ∷ 6 ∷ 6 ∷ 6 ∷ 0 ∷ 6 ∷ 7 ∷ 6 ∷ 6 ∷ 0 ∷ 0 ∷ 6 ∷ 7 ∷ 7 ∷ 6 ∷ 0 ∷ 0 ∷ 6 ∷ 7 ∷ 6 ∷ 6 ∷ 7 ∷ 6 ∷ 6 ∷ 6 ∷ 6 ∷ 7 ∷ 6 ∷ 6 ∷ 7 ∷ 6 ∷ 6 ∷ 7 ∷
+    7 ∷ 6 ∷ 6 ∷ 6 ∷ 7 ∷ 6 ∷ 7 ∷ 6 ∷ 6 ∷ 7 ∷ 7 ∷ 6 ∷ 0 ∷ 0 ∷ 6 ∷ 7 ∷ 7 ∷ 6 ∷ 7 ∷ 6 ∷ 6 ∷ 7 ∷ 6 ∷ 6 ∷ 6 ∷ 6 ∷ 0 ∷ 6 ∷ 6 ∷ 7 ∷ 6 ∷ 6 ∷ 7 ∷
+    7 ∷ 6 ∷ 6 ∷ 6 ∷ 7 ∷ 6 ∷ 7 ∷ 6 ∷ 6 ∷ 7 ∷ 7 ∷ 6 ∷ 7 ∷ 7 ∷ 6 ∷ 7 ∷ 7 ∷ 6 ∷ 7 ∷ 6 ∷ 6 ∷ 7 ∷ 6 ∷ 6 ∷ 6 ∷ 6 ∷ 7 ∷ 6 ∷ 6 ∷ 7 ∷ 6 ∷ 6 ∷ 7 ∷
+    7 ∷ 6 ∷ 6 ∷ 6 ∷ 7 ∷ 6 ∷ 7 ∷ 6 ∷ 6 ∷ 7 ∷ 7 ∷ 6 ∷ 7 ∷ 7 ∷ 6 ∷ 7 ∷ 7 ∷ 6 ∷ 7 ∷ 6 ∷ 6 ∷ 7 ∷ 6 ∷ 6 ∷ 6 ∷ 6 ∷ 7 ∷ 6 ∷ 6 ∷ 0 ∷ 6 ∷ 6 ∷ 7 ∷
+    7 ∷ 6 ∷ 6 ∷ 6 ∷ 7 ∷ 6 ∷ 7 ∷ 6 ∷ 6 ∷ 7 ∷ 7 ∷ 6 ∷ 7 ∷ 7 ∷ 6 ∷ 7 ∷ 7 ∷ 6 ∷ 7 ∷ 6 ∷ 6 ∷ 7 ∷ 6 ∷ 6 ∷ 6 ∷ 6 ∷ 7 ∷ 6 ∷ 6 ∷ 0 ∷ 6 ∷ 6 ∷ 7 ∷
+    7 ∷ 6 ∷ 6 ∷ 6 ∷ 7 ∷ 6 ∷ 7 ∷ 6 ∷ 6 ∷ 7 ∷ 7 ∷ 6 ∷ 7 ∷ 7 ∷ 6 ∷ 7 ∷ 7 ∷ 6 ∷ 0 ∷ 6 ∷ 6 ∷ 0 ∷ 6 ∷ 6 ∷ 6 ∷ 6 ∷ 7 ∷ 6 ∷ 6 ∷ 0 ∷ 6 ∷ 6 ∷ 7 ∷
+    7 ∷ 6 ∷ 6 ∷ 6 ∷ 7 ∷ 6 ∷ 7 ∷ 6 ∷ 6 ∷ 7 ∷ 7 ∷ 6 ∷ 7 ∷ 7 ∷ 6 ∷ 7 ∷ 7 ∷ 6 ∷ 7 ∷ 6 ∷ 6 ∷ 7 ∷ 6 ∷ 6 ∷ 6 ∷ 6 ∷ 7 ∷ 6 ∷ 6 ∷ 7 ∷ 6 ∷ 6 ∷ 0 ∷
+    7 ∷ 6 ∷ 6 ∷ 6 ∷ 7 ∷ 6 ∷ 7 ∷ 6 ∷ 6 ∷ 7 ∷ 7 ∷ 6 ∷ 7 ∷ 7 ∷ 6 ∷ 7 ∷ 7 ∷ 6 ∷ 7 ∷ 6 ∷ 6 ∷ 7 ∷ 6 ∷ 6 ∷ 6 ∷ 6 ∷ 7 ∷ 6 ∷ 6 ∷ 7 ∷ 6 ∷ 6 ∷ 0 ∷ []
+
+-- the rule at entry i
+unfoldable ruleAt : ℕ → ℕ
+ruleAt i = gridRule (i / 33) (kindAt (i / 3 % 11)) (i % 3)
+
+unfoldable right : ℕ → ℕ → Bool
+right i x = eqb x (ruleAt i)
+
+by-entry : (i : ℕ) → i < 297 → getD cells i 0 ≡ ruleAt i
+unfolding cells right ruleAt gridRule
+by-entry i h = eqb→eq (getD cells i 0) (ruleAt i) (at right cells tt i h)
+
+pub by-place : (s j t : ℕ) → s < 9 → j < 11 → t < 3 → getD cells ((s * 11 + j) * 3 + t) 0 ≡ gridRule s (kindAt j) t
+unfolding ruleAt
+by-place s j t hs hj ht =
+    let a : ((s * 11 + j) * 3 + t) / 33 ≡ s = omega arith in
+    let b : ((s * 11 + j) * 3 + t) / 3 % 11 ≡ j = omega arith in
+    let d : ((s * 11 + j) * 3 + t) % 3 ≡ t = omega arith in
+    by-entry ((s * 11 + j) * 3 + t) (omega arith)
+    ∙ ap₂ (λ (x y : ℕ). gridRule x (kindAt y) (((s * 11 + j) * 3 + t) % 3)) a b ∙ ap (λ (z : ℕ). gridRule s (kindAt j) z) d
+
+-- ---- the kinds and their places
+
+-- 3 to 10
+low-kind : (k : ℕ) → 3 ≤ k → k ≤ 10 → (placeOf k < 11) × (kindAt (placeOf k) ≡ k)
+low-kind k a b = rw (lt-ltb k 11 (omega arith)) (omega arith, rw (lt-ltb (k - 3) 8 (omega arith)) (omega arith))
+
+-- 13 to 15
+high-kind : (k : ℕ) → 13 ≤ k → k ≤ 15 → (placeOf k < 11) × (kindAt (placeOf k) ≡ k)
+high-kind k a b = rw (le-ltb k 11 (omega arith)) (omega arith, rw (le-ltb (k - 5) 8 (omega arith)) (omega arith))
+
+pub grid-kind : (k : ℕ) → isGridKind k ≡ true → (placeOf k < 11) × (kindAt (placeOf k) ≡ k)
+grid-kind k h = go (leb 3 k) refl (leb k 10) refl (leb 13 k) refl (leb k 15) refl h
+  where
+    go : (a : Bool) → leb 3 k ≡ a → (b : Bool) → leb k 10 ≡ b → (c : Bool) → leb 13 k ≡ c → (d : Bool) → leb k 15 ≡ d → ((a && b) || (c && d)) ≡ true
+        → (placeOf k < 11) × (kindAt (placeOf k) ≡ k)
+    go true p true q c r d s e = low-kind k (leb-true 3 k p) (leb-true k 10 q)
+    go true p false q true r true s e = high-kind k (leb-true 13 k r) (leb-true k 15 s)
+    go true p false q true r false s e = clash e
+    go true p false q false r d s e = clash e
+    go false p b q true r true s e = high-kind k (leb-true 13 k r) (leb-true k 15 s)
+    go false p b q true r false s e = clash e
+    go false p b q false r d s e = clash e
+
+-- a kind of the grid is 3 at least, and 13 at least where it is above 10
+pub grid-low : (k : ℕ) → isGridKind k ≡ true → 3 ≤ k
+grid-low k h = go (leb 3 k) refl (leb 13 k) refl h
+  where
+    go : (a : Bool) → leb 3 k ≡ a → (c : Bool) → leb 13 k ≡ c → ((a && leb k 10) || (c && leb k 15)) ≡ true → 3 ≤ k
+    go true p c r e = leb-true 3 k p
+    go false p true r e = let x : 13 ≤ k = leb-true 13 k r in omega arith
+    go false p false r e = clash e
+
+-- standings beyond the three have none
+pub no-standing : (s k w : ℕ) → 3 ≤ w → gridRule s k w ≡ 6
+unfolding gridRule
+no-standing s k w h =
+    rw (ne-eqb w 0 (λ q. absurd (omega arith)), ne-eqb w 1 (λ q. absurd (omega arith)), ne-eqb w 2 (λ q. absurd (omega arith)), lt-leb w 1 (omega arith))
+    (go (among k (3 ∷ 5 ∷ 9 ∷ 10 ∷ [])) (eqb k 4) (among k (6 ∷ 7 ∷ 8 ∷ [])))
+  where
+    go : (a b c : Bool) → _≡_ {A = ℕ} (cond (cond a false (cond b false (cond c false false))) (cond (statusFor k s) 0 7) 6) 6
+    go true b c = refl
+    go false true c = refl
+    go false false true = refl
+    go false false false = refl

@@ -1,0 +1,167 @@
+-- What a step does and sends: a refusal nothing, an accepted event at most 63 messages, each about the event's number.
+-- Assumes nothing.
+use mathlib.Core.Path.{_≡_, refl, sym, ap, _∙_, subst}
+use Prim.Native.Nat.{ℕ, zero, suc, _+_, _≤_}
+use mathlib.Core.Bool.{Bool, true, false, cond, not, _&&_}
+use mathlib.Core.Option.{Option, none as nothing, some}
+use mathlib.Core.List.{List, [], _∷_, _++_, map}
+use lib.Dec.{eqb}
+use lib.ListN.{length, length-append, length-map}
+use native.Mathlib.Omega.{arith}
+use borrow.Author.Tests.{eqb-true, not-false}
+use Rattle.systems.specs.Set.{member}
+use Rattle.model.specs.Basics.{among, All, none}
+use Rattle.model.specs.Books.{Books}
+use Rattle.model.specs.Table.{Change, put, changes, rowsOf}
+use Rattle.model.specs.Record.{isCreate, isAnswer, isBroadcast, wellFormed}
+use Rattle.model.specs.Outcomes.{isDone, judge, orderOf}
+use Rattle.model.specs.Selection.{selectedFor}
+use Rattle.model.specs.Given.{Given, Result, refuse, accept, unless, found, rest, workedOne}
+use Rattle.model.specs.Tray.{membersTo, members, sidesTold, toSoas, downloads, downloadTo, statusTold, attributesTold, restatedTold, windowTold, toldAtClose}
+use Rattle.model.specs.Creates.{creates, createOn, freshVersion, concurred}
+use Rattle.model.specs.Changes.{modifies, modified, turns, cancelled, acknowledged, resolved, windowRuns, windowMarked, windowTurned, marks}
+use Rattle.model.specs.Closing.{open?, closed, closingTold, settled, settles, settlingTold}
+use Rattle.model.specs.Broadcast.{opened, broadcastOf, broadcasts}
+use Rattle.model.specs.Answers.{answers, heard, askedAgain, again, answering}
+use Rattle.model.specs.Refusals.{refuses}
+use Rattle.model.specs.Step.{whenFound, purges, manages, accepted, rule, Setting, line, unsound, given, step, stepOf, after}
+use Rattle.model.proofs.Lists.{clash}
+use Rattle.model.proofs.Arrivals.{member-none}
+use Rattle.model.proofs.Apart.{stepBy, Near, About, Fine, fine, rows-out, rows-rows}
+use Rattle.model.proofs.Locality.{ruleIn, local}
+use Rattle.model.specs.declared.Version.{Version}
+use Rattle.model.specs.declared.Event.{Event}
+use Rattle.model.specs.declared.Message.{Message}
+use Rattle.model.specs.declared.Outcome.{Outcome}
+use Rattle.model.specs.declared.Outcome.the-variants.{Unsound, Malformed, Unknown}
+
+-- what every answer is: at most 63 messages, and none and no change with a refusal
+pub record Modest (a : Result) : Type 0 where
+  pub few : length (a .sent) ≤ 63
+  pub nothing-sent : isDone (a .out) ≡ false → a .sent ≡ []
+  pub nothing-done : isDone (a .out) ≡ false → a .does ≡ []
+
+modest-refuse : (o : Outcome) → Modest (refuse o)
+modest-refuse o = record { few = omega arith; nothing-sent = λ q. refl; nothing-done = λ q. refl }
+
+modest-accept : (ms : List Message) (cs : List Change) → length ms ≤ 63 → Modest (accept ms cs)
+modest-accept ms cs h = record { few = h; nothing-sent = λ q. clash (sym q); nothing-done = λ q. clash (sym q) }
+
+modest-cond : (b : Bool) {x y : Result} → Modest x → Modest y → Modest (cond b x y)
+modest-cond true h k = h
+modest-cond false h k = k
+
+modest-found : (o : Option Version) (f : Version → Result) → ((v : Version) → Modest (f v)) → Modest (whenFound o f)
+modest-found nothing f h = modest-refuse Unknown
+modest-found (some v) f h = h v
+
+-- ---- how many
+
+told-two : (v w : Version) → length (restatedTold v w) ≤ 4
+told-two v w = go (eqb (v .status) (w .status))
+  where
+    go : (b : Bool) → length (cond b [] (statusTold w) ++ attributesTold w) ≤ 4
+    go true = omega arith
+    go false = omega arith
+
+length-members : (s n : ℕ) (l : List ℕ) → length (membersTo s n l) ≤ n + length l
+length-members s zero l = omega arith
+length-members s (suc n) l = go (member s (suc n)) (length-members s n (suc n ∷ l)) (length-members s n l)
+  where
+    go : (b : Bool) → length (membersTo s n (suc n ∷ l)) ≤ n + length (suc n ∷ l) → length (membersTo s n l) ≤ n + length l
+        → length (membersTo s n (cond b (suc n ∷ l) l)) ≤ suc n + length l
+    go true h k = omega arith
+    go false h k = omega arith
+
+pub members-few : (s : ℕ) → length (members s) ≤ 63
+unfolding members
+members-few s = length-members s 63 []
+
+no-members : members 0 ≡ []
+unfolding members
+no-members = go 63 []
+  where
+    go : (n : ℕ) (l : List ℕ) → membersTo 0 n l ≡ l
+    go zero l = refl
+    go (suc n) l = rw (member-none (suc n)) (go n l)
+
+closing-two : (v : Version) → length (settlingTold v) ≤ 2
+unfolding settlingTold closingTold
+closing-two v = go (open? v) (eqb (v .cast .purpose) 1)
+  where
+    go : (a b : Bool) → length (cond a [] (toSoas (closed v) 2 (v .cast .failed) (record { 0 = 0 }) (cond b (sidesTold v) (v .new .provider ∷ [])))) ≤ 2
+    go true b = omega arith
+    go false true = omega arith
+    go false false = omega arith
+
+-- downloads, or else the closing's messages
+broadcast-few : (w : Version) → length (downloads w ++ settlingTold w) ≤ 63
+unfolding settlingTold
+broadcast-few w = go (open? w) refl
+  where
+    go : (b : Bool) → open? w ≡ b → length (downloads w ++ settlingTold w) ≤ 63
+    go true q = rw q (omega (arith, length-append (downloads w) [], length-map (members (w .cast .waiting)) (downloadTo w), members-few (w .cast .waiting)))
+    go false q =
+        let z : w .cast .waiting ≡ 0 = eqb-true (w .cast .waiting) 0 (not-false (eqb (w .cast .waiting) 0) q) in
+        let none : downloads w ≡ [] = ap (λ (s : ℕ). map (downloadTo w) (members s)) z ∙ ap (map (downloadTo w)) no-members in
+        rw none (omega (arith, closing-two w))
+
+modest-answers : (most : ℕ) (e : Event) (v : Version) (others : List Version) → Modest (answers most e v others)
+unfolding answers askedAgain
+modest-answers most e v others =
+    modest-accept _ _
+    (omega (arith, length-append (askedAgain most e v) (settlingTold (heard most e v)), closing-two (heard most e v), one (again most e (v .cast))))
+  where
+    one : (b : Bool) → length (cond b (downloadTo v (answering e) ∷ []) []) ≤ 1
+    one true = omega arith
+    one false = omega arith
+
+modest-creates : (e : Event) (r : List Version) → Modest (creates e r)
+unfolding creates
+modest-creates e r = go (workedOne r)
+  where
+    go : (o : Option Version) → Modest (createOn e r o)
+    go nothing = modest-accept _ _ (omega arith)
+    go (some v) = modest-accept _ _ (omega (arith, told-two v (concurred e v)))
+
+modest-manages : (bk : Books) (e : Event) (v : Version) (others : List Version) → Modest (manages bk e v others)
+unfolding manages windowRuns broadcasts
+modest-manages bk e v others =
+    modest-cond (among (e .kind) (3 ∷ 4 ∷ [])) (modest-accept _ _ (omega (arith, told-two v (modified e v))))
+    (modest-cond (eqb (e .kind) 6) (modest-accept _ _ (omega arith))
+    (modest-cond (eqb (e .kind) 7) (modest-accept _ _ (omega arith))
+    (modest-cond (eqb (e .kind) 8) (modest-accept _ _ (omega arith))
+    (modest-cond (eqb (e .kind) 13) (modest-cond (marks v) (modest-accept _ _ (omega arith)) (modest-accept _ _ (omega arith)))
+    (modest-cond (isBroadcast (e .kind)) (modest-accept _ _ (broadcast-few (opened (selectedFor bk (v .id .tn .0)) e v))) (modest-accept _ _ (omega arith)))))))
+
+modest-accepted : (g : Given) → Modest (accepted g)
+unfolding accepted
+modest-accepted g =
+    modest-cond (isCreate (g .event .kind)) (modest-creates (g .event) (g .rows))
+    (modest-cond (isAnswer (g .event .kind)) (modest-found (found g) _ (λ v. modest-answers (g .most) (g .event) v (rest g)))
+    (modest-found (found g) _ (λ v. modest-manages (g .books) (g .event) v (rest g))))
+
+modest-rule : (g : Given) → Modest (rule g)
+unfolding rule
+modest-rule g =
+    let o : Outcome = judge (refuses g) (orderOf (g .event .kind)) in
+    modest-cond (isDone o) (modest-accepted g) (modest-refuse o)
+
+pub modest-step : (s : Setting) (e : Event) (t : List Version) → Modest (stepOf s e t)
+unfolding step
+modest-step s e t =
+    modest-cond (unsound s t) (modest-refuse Unsound) (modest-cond (wellFormed e) (modest-rule (given s e t)) (modest-refuse Malformed))
+
+-- ---- the event's own number
+
+pub fine-step : (s : Setting) (e : Event) (t : List Version) → Fine (line s) (line s (e .tn .0)) (stepOf s e t)
+unfolding step
+fine-step s e t = go (unsound s t)
+  where
+    go : (b : Bool) → Fine (line s) (line s (e .tn .0)) (cond b (refuse Unsound) (stepBy (line s) (ruleIn s) (s .rows) e t))
+    go true = record { near = none; about = none; grows = omega arith }
+    go false = fine (line s) (ruleIn s) (local (line s) s) (s .rows) e t
+
+-- the rows of every other number stay
+pub other-rows : (s : Setting) (e : Event) (t : List Version) (l : ℕ) → (line s (e .tn .0) ≡ l → ⊥) → rowsOf (line s) l (after (stepOf s) e t) ≡ rowsOf (line s) l t
+other-rows s e t l n = rows-out (line s) (line s (e .tn .0)) l (stepOf s e t .does) t (fine-step s e t .near) n

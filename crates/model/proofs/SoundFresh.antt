@@ -1,0 +1,132 @@
+-- A fresh version is sound.
+-- Assumes nothing.
+use mathlib.Core.Path.{_≡_, refl, sym, ap, _∙_, subst}
+use Prim.Native.Nat.{ℕ, zero, suc, _+_, _^_, _≤_, _<_}
+use mathlib.Core.Bool.{Bool, true, false, cond, not, _&&_, _||_}
+use mathlib.Core.List.{List, [], _∷_}
+use lib.Dec.{eqb, leb, ltb}
+use native.Mathlib.Omega.{arith}
+use borrow.Author.Tests.{eqb-true, eqb-false, ltb-true, le-leb, ne-eqb, not-true}
+use Rattle.systems.specs.Set.{member}
+use Rattle.model.specs.Basics.{among, iff, implies, every}
+use Rattle.model.specs.Numbers.{tenDigits, isNumber, isTime, isProvider}
+use Rattle.model.specs.Retries.{octal, used, noRetries}
+use Rattle.model.specs.Sound.{pending, conflict, cancelPending, no, newWhole, oldWhole, causeFits, sidesNeeded, setsApart, apart, retriesFit, retriesInRange, castInRange}
+use Rattle.model.specs.Record.{isCreate, named, twoSides, wellFormed}
+use Rattle.model.specs.Creates.{byNew, newIn, oldIn, newFrom, oldFrom, newAbsent, oldAbsent, newJoined, oldJoined, statusBy, noBroadcast, freshVersion}
+use Rattle.model.specs.Given.{newest}
+use Rattle.model.proofs.Lists.{clash, and-l, and-r, both-true, conj-at}
+use Rattle.model.proofs.Formed.{Fields, fields}
+use Rattle.model.proofs.SoundRows.{Row, Calm, calm0, calm1, calm-cond}
+use Rattle.model.proofs.SoundAnswers.{time-is}
+use Rattle.model.proofs.SoundSides.{new-fields, old-fields, new-from, old-from}
+use Rattle.model.specs.declared.Id.{Id}
+use Rattle.model.specs.declared.NewSide.{NewSide}
+use Rattle.model.specs.declared.OldSide.{OldSide}
+use Rattle.model.specs.declared.Event.{Event}
+use Rattle.model.specs.declared.Version.{Version}
+
+none-apart : setsApart noBroadcast ≡ true
+unfolding setsApart apart every member
+none-apart = refl
+
+none-fit : retriesFit noBroadcast ≡ true
+unfolding retriesFit every member used octal
+none-fit = refl
+
+none-cast : castInRange noBroadcast ≡ true
+unfolding castInRange retriesInRange
+none-cast = refl
+
+abbrev blank : Id → ℕ → ℕ → NewSide → OldSide → Version
+blank id status stamp new old =
+    record { id = id; status = status; stamp = stamp; live = false; new = new; old = old; canceller = 0; window = false; cast = noBroadcast }
+
+blank-row : (id : Id) (s t : ℕ) (n : NewSide) (o : OldSide) → tenDigits (id .tn .0) ≡ true → isNumber (id .number) ≡ true → isTime t ≡ true
+    → isProvider (n .provider) ≡ true → isProvider (o .provider) ≡ true → eqb (n .provider) (o .provider) ≡ false → newWhole n ≡ true → oldWhole o ≡ true
+    → causeFits o ≡ true → (n .created || o .created) ≡ true → Calm s → eqb s cancelPending ≡ false → implies (eqb s conflict) (o .created) ≡ true → Row (blank id s t n o)
+unfolding sidesNeeded
+blank-row id s t n o tn number time pn po d wn wo c one q no2 clashes = record {
+  ranges = record { tn = tn; number = number; status = q .small; stamp = time; new = pn; old = po; canceller = refl; cast = none-cast };
+  differ = rw d;
+  new = wn;
+  old = wo;
+  one = one;
+  needed = both-true (implies (eqb s conflict) (o .created) && implies (eqb s cancelPending) (n .created && o .created)) _
+      (both-true (implies (eqb s conflict) (o .created)) _ clashes (rw no2)) (rw (q .aimless, q .no7));
+  cause = c;
+  canceller = rw no2;
+  apart = none-apart;
+  retries = none-fit;
+  start = rw (q .no3);
+  waiting = rw (q .no3);
+  purpose = rw (q .aimless, q .no45);
+  live = rw (q .no3, q .no56);
+  confirmed = refl;
+}
+
+provider-is : (p : ℕ) → named p ≡ true → p < 64 → isProvider p ≡ true
+provider-is p h l = both-true (leb 1 p) (leb p 63) (le-leb 1 p (ltb-true 0 p h)) (le-leb p 63 (omega arith))
+
+-- an absent side
+no-side : (p : ℕ) → oldWhole (oldAbsent p) ≡ true
+unfolding oldWhole
+no-side p = refl
+
+no-cause : (p : ℕ) → causeFits (oldAbsent p) ≡ true
+unfolding causeFits
+no-cause p = refl
+
+no-new : (p : ℕ) → newWhole (newAbsent p) ≡ true
+unfolding newWhole
+no-new p = refl
+
+module _ (e : Event) (formed : wellFormed e ≡ true) (r : List Version) (room : newest r < 65535) where
+  f : Fields e
+  f = fields e formed
+
+  -- the two providers of a create
+  sides : twoSides (e .sender) (e .other) ≡ true → (isProvider (e .sender) ≡ true) × (isProvider (e .other) ≡ true) × (eqb (e .sender) (e .other) ≡ false)
+  sides h =
+      let of = conj-at (named (e .sender) ∷ named (e .other) ∷ not (eqb (e .sender) (e .other)) ∷ []) h in
+      (provider-is (e .sender) (of 0) (f .sender), provider-is (e .other) (of 1) (f .other), not-true (eqb (e .sender) (e .other)) (of 2))
+
+  turned : (a b : ℕ) → eqb a b ≡ false → eqb b a ≡ false
+  turned a b h = ne-eqb b a (λ q. eqb-false a b h (sym q))
+
+  pub row-fresh : isCreate (e .kind) ≡ true → Row (freshVersion e r)
+  unfolding freshVersion
+  row-fresh k = go (eqb (e .kind) 1) refl (eqb (e .kind) 2) refl
+    where
+      id : Id
+      id = record { tn = e .tn; number = suc (newest r) }
+
+      number : isNumber (suc (newest r)) ≡ true
+      number = both-true (leb 1 (suc (newest r))) (leb (suc (newest r)) 65535) (le-leb 1 (suc (newest r)) (omega arith)) (le-leb (suc (newest r)) 65535 (omega arith))
+
+      time : isTime (e .time) ≡ true
+      time = time-is (e .time) (f .timed) (f .time)
+
+      go : (a : Bool) → eqb (e .kind) 1 ≡ a → (b : Bool) → eqb (e .kind) 2 ≡ b
+          → Row (blank (record { tn = e .tn; number = suc (newest r) })
+          (statusBy (cond a (oldAbsent (cond a (e .other) (e .sender))) (oldFrom e (cond a (e .other) (e .sender)))) pending) (e .time)
+          (cond a (newFrom e (cond a (e .sender) (e .other))) (newAbsent (cond a (e .sender) (e .other))))
+          (cond a (oldAbsent (cond a (e .other) (e .sender))) (oldFrom e (cond a (e .other) (e .sender)))))
+      go true p b q =
+          let d = sides (new-fields e formed p 0) in
+          blank-row id pending (e .time) (newFrom e (e .sender)) (oldAbsent (e .other)) (f .number) number time (d .0) (d .1) (d .2)
+          (new-from e (e .sender) f (new-fields e formed p 5) (new-fields e formed p 3)) (no-side (e .other)) (no-cause (e .other)) refl calm0 refl refl
+      go false p true q =
+          let d = sides (old-fields e formed q 0) in
+          let w = old-from e (oldFrom e (e .sender)) refl refl refl refl f (old-fields e formed q 4) (old-fields e formed q 1) in
+          blank-row id (cond (eqb (e .mark) no) conflict pending) (e .time) (newAbsent (e .other)) (oldFrom e (e .sender)) (f .number) number time (d .1) (d .0)
+          (turned (e .sender) (e .other) (d .2)) (no-new (e .other)) (w .0) (w .1) refl (calm-cond (eqb (e .mark) no) calm1 calm0) (plain (eqb (e .mark) no)) (always (eqb (cond (eqb (e .mark) no) conflict pending) conflict))
+        where
+          plain : (x : Bool) → eqb (cond x conflict pending) cancelPending ≡ false
+          plain true = refl
+          plain false = refl
+
+          always : (x : Bool) → implies x true ≡ true
+          always true = refl
+          always false = refl
+      go false p false q = clash (rw (p, q) at k)

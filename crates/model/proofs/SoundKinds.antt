@@ -1,0 +1,308 @@
+-- Every kind keeps the rows of its number sound.
+-- Assumes nothing.
+use mathlib.Core.Path.{_≡_, refl, sym, ap, ap₂, _∙_, subst}
+use Prim.Native.Nat.{ℕ, zero, suc, _+_, _^_, _≤_, _<_}
+use mathlib.Core.Bool.{Bool, true, false, cond, not, _&&_, _||_}
+use mathlib.Core.List.{List, [], _∷_, _++_}
+use mathlib.Core.Option.{Option, none as nothing, some}
+use lib.Dec.{eqb, leb, ltb}
+use native.Mathlib.Omega.{arith}
+use borrow.Author.Tests.{eqb-true, eqb-false, ltb-true, lt-ltb, leb-true, leb-false, le-leb, not-true, not-false}
+use Rattle.model.specs.Basics.{among, iff, implies, any, first, holds, isNone, All, none, with}
+use Rattle.model.specs.Numbers.{tenDigits, isNumber, isTime, isProvider, isSet, codeOf}
+use Rattle.model.specs.Retries.{used, noRetries}
+use Rattle.model.specs.Books.{Books, soundRetries}
+use Rattle.model.specs.Table.{Change, put, add, strike, change, changes, find, notNamed, others, Rising}
+use Rattle.model.specs.Sound.{pending, conflict, cancelPending, canceled, no, isSending, isWorked, activate, count, live, sends, worked, newWhole, oldWhole, causeFits, sidesNeeded, setsApart, retriesFit, castInRange}
+use Rattle.model.specs.Record.{isCreate, isAnswer, isBroadcast, named, twoSides, wellFormed}
+use Rattle.model.specs.Outcomes.{isDone, judge, orderOf}
+use Rattle.model.specs.Selection.{selectedFor, selects}
+use Rattle.model.specs.Standing.{standingOf, standsFor, statusFor, gridRule, unready, lacksStanding, wrongStatus}
+use Rattle.model.specs.Given.{Given, Result, refuse, accept, unless, nameIn, found, rest, newest, workedOne}
+use Rattle.model.specs.Creates.{byNew, newIn, oldIn, newFrom, oldFrom, newAbsent, oldAbsent, newJoined, oldJoined, statusBy, noBroadcast, freshVersion, fits, concurred, createOn, creates}
+use Rattle.model.specs.Changes.{newModified, oldModified, modified, modifies, turns, turned, cancelled, acknowledged, resolved, marks, windowTurned, windowMarked, windowRuns}
+use Rattle.model.specs.Broadcast.{opened, broadcastOf, broadcasts}
+use Rattle.model.specs.Answers.{answering, awaited, heard, answers}
+use Rattle.model.specs.Refusals.{absent, unlisted, early, busy, busyWith, unawaited, notCurrent, unfit, exhausted, full, refuses, idle, beforeStart}
+use Rattle.model.specs.Step.{purges, manages, whenFound, accepted, rule, Setting}
+use Rattle.model.proofs.Lists.{clash, and-l, and-r, both-true, or-off, all-first, first-true, none-true}
+use Rattle.model.proofs.TableLaws.{find-name}
+use Rattle.model.proofs.Arrivals.{member-none}
+use Rattle.model.proofs.Digits.{used-none}
+use Rattle.model.proofs.Formed.{Fields, fields, answering-named}
+use Rattle.model.proofs.Replies.{heard-id, done-is}
+use Rattle.model.proofs.SoundRows.{CastRanges, ranges-cast, Row, Calm, calm0, calm1, calm-cond, calm-worked}
+use Rattle.model.proofs.SoundSets.{every-all, set-none, set-mask, Apart}
+use Rattle.model.proofs.SoundCasts.{Casting}
+use Rattle.model.proofs.SoundAnswers.{time-is, of-parted, is-sending, casting-heard}
+use Rattle.model.proofs.SoundOpened.{Allowed, none-used, purpose-lasts, casting-opened}
+use Rattle.model.proofs.SoundSides.{new-fields, old-fields, row-concurred, row-new-modified, row-old-modified, row-cancelled, row-acknowledged, row-resolved, window-status, row-window-turned, row-window-marked, open-status, status-is}
+use Rattle.model.proofs.SoundFresh.{row-fresh}
+use Rattle.model.proofs.SoundLines.{Line, one, all-find, found-self, count-cons, count-found, count-put, count-strike, count-add, first-none, any-none, line-put}
+use Rattle.model.proofs.SoundLaws.{Brings, Keeps, Ground, keeps-refuse, keeps-if, keeps-found, keeps-settled}
+use Rattle.model.specs.declared.Id.{Id}
+use Rattle.model.specs.declared.Event.{Event}
+use Rattle.model.specs.declared.Version.{Version}
+use Rattle.model.specs.declared.Message.{Message}
+use Rattle.model.specs.declared.Outcome.{Outcome}
+
+one-le : (b : Bool) → one b ≤ 1
+one-le true = omega arith
+one-le false = omega arith
+
+-- a worked version turned to another status outside a broadcast
+calm-put : (k : Id) (r : List Version) (v w : Version) (ms : List Message) → Rising r → Line r → find k r ≡ some v → w .id ≡ k → w .live ≡ v .live
+    → worked v ≡ true → sends w ≡ false → Row w → Keeps r (accept ms (put w ∷ []))
+calm-put k r v w ms s line h n l o q row = record {
+  rows = with row none;
+  line = line-put k r v s line h w n (rw l (omega arith)) (rw q (omega arith)) (rw o (one-le (worked w)));
+}
+
+-- ---- what the makers leave as it is
+
+le-one : {a b : Bool} → a ≡ b → one a ≤ one b
+le-one {a} {b} q = rw q (omega arith)
+
+opened-id : (s : ℕ) (e : Event) (v : Version) → opened s e v .id ≡ v .id
+unfolding opened
+opened-id s e v = refl
+
+opened-live : (s : ℕ) (e : Event) (v : Version) → opened s e v .live ≡ v .live
+unfolding opened
+opened-live s e v = refl
+
+opened-worked : (s : ℕ) (e : Event) (v : Version) → worked (opened s e v) ≡ false
+unfolding opened
+opened-worked s e v = refl
+
+set-selected : (bk : Books) (tn : ℕ) → isSet (selectedFor bk tn) ≡ true
+unfolding selectedFor
+set-selected bk tn = set-mask (selects bk (codeOf tn))
+
+fresh-live : (e : Event) (r : List Version) → freshVersion e r .live ≡ false
+unfolding freshVersion
+fresh-live e r = refl
+
+fresh-sends : (e : Event) (r : List Version) → sends (freshVersion e r) ≡ false
+unfolding freshVersion
+fresh-sends e r = calm-cond (eqb (oldJoined e (oldAbsent (oldIn e)) .authorization) no) calm1 calm0 .no3
+
+concurred-id : (e : Event) (v : Version) → concurred e v .id ≡ v .id
+unfolding concurred
+concurred-id e v = refl
+
+concurred-live : (e : Event) (v : Version) → concurred e v .live ≡ v .live
+unfolding concurred
+concurred-live e v = refl
+
+concurred-calm : (e : Event) (v : Version) → worked v ≡ true → sends (concurred e v) ≡ false
+unfolding concurred
+concurred-calm e v h = calm-cond (eqb (oldJoined e (v .old) .authorization) no) calm1 (calm-worked (v .status) h) .no3
+
+heard-live : (most : ℕ) (e : Event) (v : Version) → heard most e v .live ≡ v .live
+unfolding heard
+heard-live most e v = refl
+
+heard-sends : (most : ℕ) (e : Event) (v : Version) → sends (heard most e v) ≡ sends v
+unfolding heard
+heard-sends most e v = refl
+
+heard-worked : (most : ℕ) (e : Event) (v : Version) → worked (heard most e v) ≡ worked v
+unfolding heard
+heard-worked most e v = refl
+
+module _ (lineOf : ℕ → ℕ) (e : Event) (formed : wellFormed e ≡ true) (r : List Version) (g : Ground lineOf (lineOf (e .tn .0)) r) where
+  abbrev K : Id
+  K = nameIn e
+
+  -- ---- an event of kinds 3 to 10 and 13 to 15, for the version v
+  module _ (v : Version) (h : find (nameIn e) r ≡ some v) (al : Allowed e v) where
+    row : Row v
+    row = all-find K v (g .rows) h
+
+    keeps-calm : (w : Version) (ms : List Message) → w .id ≡ v .id → w .live ≡ v .live → worked v ≡ true → sends w ≡ false → Row w → Keeps r (accept ms (put w ∷ []))
+    keeps-calm w ms n l o q x = calm-put K r v w ms (g .rising) (g .line) h (n ∙ find-name K r v h) l o q x
+
+    by-kind : (n : ℕ) → eqb (e .kind) n ≡ true → statusFor n (v .status) ≡ true
+    by-kind n q = subst (λ (j : ℕ). statusFor j (v .status) ≡ true) (eqb-true (e .kind) n q) (al .fitting)
+
+    open-worked : among (v .status) (pending ∷ conflict ∷ []) ≡ true → worked v ≡ true
+    open-worked q = open-status e formed v row al q .0
+
+    not-sending : (s : ℕ) → Calm s → isSending s ≡ false
+    not-sending s c = c .no3
+
+    keeps-modifies : among (e .kind) (3 ∷ 4 ∷ []) ≡ true → Keeps r (modifies e v)
+    unfolding newModified oldModified
+    keeps-modifies q = go (eqb (e .kind) 3) refl (eqb (e .kind) 4) refl
+      where
+        calm-open : among (v .status) (pending ∷ conflict ∷ []) ≡ true → sends v ≡ false
+        calm-open p = calm-worked (v .status) (open-worked p) .no3
+
+        go : (a : Bool) → eqb (e .kind) 3 ≡ a → (b : Bool) → eqb (e .kind) 4 ≡ b → Keeps r (modifies e v)
+        go true p b x = rw p (keeps-calm (newModified e v) _ refl refl (open-worked (by-kind 3 p)) (calm-open (by-kind 3 p)) (row-new-modified e formed v row al p))
+        go false p true x = rw p (keeps-calm (oldModified e v) _ refl refl (open-worked (by-kind 4 x)) (not-sending _ (calm-cond (eqb (e .mark) no) calm1 calm0)) (row-old-modified e formed v row al x))
+        go false p false x = clash (rw (p, x) at q)
+
+    keeps-cancelled : eqb (e .kind) 6 ≡ true → Keeps r (turns (cancelled e v))
+    unfolding cancelled
+    keeps-cancelled q =
+        keeps-calm (cancelled e v) _ (id-of (v .new .created && v .old .created)) (live-of (v .new .created && v .old .created)) (open-worked (by-kind 6 q))
+        (calm-of (v .new .created && v .old .created)) (row-cancelled e formed v row al q)
+      where
+        id-of : (b : Bool) → cond b (turned e v cancelPending (suc (standingOf e v)) (v .window)) (turned e v canceled (v .canceller) (v .window)) .id ≡ v .id
+        id-of true = refl
+        id-of false = refl
+
+        live-of : (b : Bool) → cond b (turned e v cancelPending (suc (standingOf e v)) (v .window)) (turned e v canceled (v .canceller) (v .window)) .live ≡ v .live
+        live-of true = refl
+        live-of false = refl
+
+        calm-of : (b : Bool) → sends (cond b (turned e v cancelPending (suc (standingOf e v)) (v .window)) (turned e v canceled (v .canceller) (v .window))) ≡ false
+        calm-of true = refl
+        calm-of false = refl
+
+    keeps-acknowledged : eqb (e .kind) 7 ≡ true → Keeps r (turns (acknowledged e v))
+    unfolding acknowledged
+    keeps-acknowledged q =
+        keeps-calm (acknowledged e v) _ refl refl (status-is e formed v row al 2 (λ (s : ℕ). isWorked s ≡ true) (by-kind 7 q) refl) refl (row-acknowledged e formed v row al q)
+
+    keeps-resolved : eqb (e .kind) 8 ≡ true → Keeps r (turns (resolved e v))
+    unfolding resolved
+    keeps-resolved q =
+        keeps-calm (resolved e v) _ refl refl (status-is e formed v row al 1 (λ (s : ℕ). isWorked s ≡ true) (by-kind 8 q) refl) refl (row-resolved e formed v row al q)
+
+    keeps-window : eqb (e .kind) 13 ≡ true → Keeps r (windowRuns e v)
+    unfolding windowRuns windowMarked windowTurned
+    keeps-window q =
+        keeps-if (marks v)
+        (λ _. keeps-calm (windowMarked e v) _ refl refl works (calm-worked (v .status) works .no3) (row-window-marked e formed v row al q))
+        (λ _. keeps-calm (windowTurned e v) _ (id-of (eqb (v .status) cancelPending)) (live-of (eqb (v .status) cancelPending)) works
+        (calm-of (eqb (v .status) cancelPending) (eqb (v .canceller) 1)) (row-window-turned e formed v row al q))
+      where
+        works : worked v ≡ true
+        works = window-status e formed v row al q
+
+        id-of : (b : Bool) → cond b (turned e v (cond (eqb (v .canceller) 1) canceled conflict) 0 (v .window)) (turned e v canceled (v .canceller) (v .window)) .id ≡ v .id
+        id-of true = refl
+        id-of false = refl
+
+        live-of : (b : Bool) → cond b (turned e v (cond (eqb (v .canceller) 1) canceled conflict) 0 (v .window)) (turned e v canceled (v .canceller) (v .window)) .live ≡ v .live
+        live-of true = refl
+        live-of false = refl
+
+        calm-of : (b c : Bool) → sends (cond b (turned e v (cond c canceled conflict) 0 (v .window)) (turned e v canceled (v .canceller) (v .window))) ≡ false
+        calm-of true true = refl
+        calm-of true false = refl
+        calm-of false c = refl
+
+    keeps-strike : Keeps r (purges v)
+    keeps-strike = record {
+      rows = with tt none;
+      line = record {
+        lives = omega (arith, g .line .lives, count-strike live (v .id) r);
+        sends = omega (arith, g .line .sends, count-strike sends (v .id) r);
+        works = omega (arith, g .line .works, count-strike worked (v .id) r);
+      };
+    }
+
+    -- ---- a broadcast
+    keeps-broadcasts : (bk : Books) → isBroadcast (e .kind) ≡ true → any sends (others K r) ≡ false → Keeps r (broadcasts bk e v (others K r))
+    unfolding broadcasts
+    keeps-broadcasts bk k free =
+        keeps-settled K r v (g .rising) (g .rows) (g .line) h alone W same _ (casting-opened S set e formed v row k al) line-opened (purpose-lasts S set e formed v row k al)
+      where
+        S : ℕ
+        S = selectedFor bk (v .id .tn .0)
+
+        set : isSet S ≡ true
+        set = set-selected bk (v .id .tn .0)
+
+        W : Version
+        W = opened S e v
+
+        same : W .id ≡ K
+        same = opened-id S e v ∙ find-name K r v h
+
+        alone : count sends (others K r) ≡ 0
+        alone = any-none sends (others K r) free
+
+        line-opened : Line (change (put W) r)
+        line-opened = record {
+          lives = omega (arith, g .line .lives, count-put live K r v W (g .rising) h same, count-found live K r v (g .rising) h, ap one (opened-live S e v));
+          sends = omega (arith, alone, count-put sends K r v W (g .rising) h same, one-le (sends W));
+          works = omega (arith, g .line .works, count-put worked K r v W (g .rising) h same, count-found worked K r v (g .rising) h, ap one (opened-worked S e v));
+        }
+
+    -- ---- all of them
+    pub keeps-manages : (bk : Books) → busyWith e r (others K r) v ≡ false → Keeps r (manages bk e v (others K r))
+    unfolding manages busyWith
+    keeps-manages bk free =
+        keeps-if (among (e .kind) (3 ∷ 4 ∷ [])) (λ q. keeps-modifies q)
+        (λ _. keeps-if (eqb (e .kind) 6) (λ q. keeps-cancelled q)
+        (λ _. keeps-if (eqb (e .kind) 7) (λ q. keeps-acknowledged q)
+        (λ _. keeps-if (eqb (e .kind) 8) (λ q. keeps-resolved q)
+        (λ _. keeps-if (eqb (e .kind) 13) (λ q. keeps-window q)
+        (λ _. keeps-if (isBroadcast (e .kind)) (λ q. keeps-broadcasts bk q (or-off (any sends (others K r)) _ (rw q at free) .0)) (λ _. keeps-strike))))))
+
+  -- ---- creates
+  pub keeps-creates : isCreate (e .kind) ≡ true → (isNone (workedOne r) ≡ true → newest r < 65535) → ((v : Version) → workedOne r ≡ some v → fits e v ≡ true) → Keeps r (creates e r)
+  unfolding creates
+  keeps-creates k room fit = go (workedOne r) refl
+    where
+      line-fresh : workedOne r ≡ nothing → Line (change (add (freshVersion e r)) r)
+      line-fresh q = record {
+        lives = omega (arith, g .line .lives, count-add live (freshVersion e r) r, ap one (fresh-live e r));
+        sends = omega (arith, g .line .sends, count-add sends (freshVersion e r) r, ap one (fresh-sends e r));
+        works = omega (arith, first-none worked r q, count-add worked (freshVersion e r) r, one-le (worked (freshVersion e r)));
+      }
+
+      go : (o : Option Version) → workedOne r ≡ o → Keeps r (createOn e r o)
+      go nothing q = record { rows = with (row-fresh e formed r (room (ap isNone q)) k) none; line = line-fresh q }
+      go (some v) q =
+          let at : find (v .id) r ≡ some v = all-first {P = λ (x : Version). find (x .id) r ≡ some x} worked v (found-self r (g .rising)) q in
+          let works : worked v ≡ true = first-true worked r v q in
+          let row : Row v = all-find (v .id) v (g .rows) at in
+          calm-put (v .id) r v (concurred e v) _ (g .rising) (g .line) at (concurred-id e v) (concurred-live e v) works (concurred-calm e v works)
+          (row-concurred e formed v row k works (fit v q))
+
+  -- ---- answers
+  pub keeps-answers : (most : ℕ) → most ≤ 7 → (v : Version) → find K r ≡ some v → isAnswer (e .kind) ≡ true → awaited e v ≡ true → Keeps r (answers most e v (others K r))
+  unfolding answers
+  keeps-answers most small v h a aw =
+      keeps-settled K r v (g .rising) (g .rows) (g .line) h alone W same _ casting line-heard lasts
+    where
+      f : Fields e
+      f = fields e formed
+
+      row : Row v
+      row = all-find K v (g .rows) h
+
+      sys : (1 ≤ answering e) × (answering e < 64)
+      sys = answering-named e formed a
+
+      casting : Casting (heard most e v)
+      casting = casting-heard most small e v row aw (sys .0) (sys .1) (time-is (e .time) (f .timed) (f .time))
+
+      on : sends v ≡ true
+      on = is-sending most small e v row aw (sys .0) (sys .1) (time-is (e .time) (f .timed) (f .time))
+
+      W : Version
+      W = heard most e v
+
+      same : W .id ≡ K
+      same = heard-id most e v ∙ find-name K r v h
+
+      alone : count sends (others K r) ≡ 0
+      alone = omega (arith, g .line .sends, count-found sends K r v (g .rising) h, ap one on)
+
+      line-heard : Line (change (put W) r)
+      line-heard = line-put K r v (g .rising) (g .line) h W same (le-one (heard-live most e v)) (le-one (heard-sends most e v)) (le-one (heard-worked most e v))
+
+      lasts : eqb (W .cast .purpose) activate ≡ false → v .live ≡ true
+      lasts z = is (v .live) (eqb (W .cast .purpose) activate) (subst (λ (x : Bool). (x || eqb (W .cast .purpose) activate) ≡ true) (heard-live most e v) (casting .lasting)) z
+        where
+          is : (a b : Bool) → (a || b) ≡ true → b ≡ false → a ≡ true
+          is true b q z = refl
+          is false true q z = clash (sym z)
+          is false false q z = q

@@ -1,0 +1,218 @@
+-- A sound table as a test and as facts; and every step leaves one. [V12]
+-- Assumes nothing.
+use mathlib.Core.Path.{_≡_, refl, sym, ap, ap₂, _∙_, subst}
+use Prim.Native.Nat.{ℕ, zero, suc, _+_, _≤_, _<_, Ordering, Ordering·lt, Ordering·eq, Ordering·gt}
+use mathlib.Core.Bool.{Bool, true, false, cond, not, _&&_, _||_}
+use mathlib.Core.List.{List, [], _∷_, _++_, map}
+use mathlib.Core.Option.{Option, none as nothing, some}
+use lib.Dec.{eqb, leb, ltb}
+use lib.ListN.{length, getD}
+use native.Mathlib.Omega.{arith}
+use borrow.Author.Tests.{eqb-true, leb-true, le-leb, ltb-true, ltb-false, not-true, not-false}
+use Rattle.model.specs.Basics.{all, keep, among, isNone, All, none, with}
+use Rattle.model.specs.Books.{soundRetries, soundBooks}
+use Rattle.model.specs.Table.{order, sel, Change, put, Under, Rising, rowsOf, changes, adds}
+use Rattle.model.specs.Sound.{soundVersion, oneEach, above, rising, soundLines, soundTable, count, live, sends, worked}
+use Rattle.model.specs.Record.{isCreate, isAnswer, isBroadcast, wellFormed}
+use Rattle.model.specs.Outcomes.{isDone, judge, orderOf, createOrder}
+use Rattle.model.specs.Given.{Given, Result, refuse, accept, unless, nameIn, found, rest, workedOne}
+use Rattle.model.specs.Creates.{creates, createOn}
+use Rattle.model.specs.Changes.{modifies, turns, cancelled, acknowledged, resolved, windowRuns, windowMarked, windowTurned, marks}
+use Rattle.model.specs.Tray.{windowTold}
+use Rattle.model.specs.Broadcast.{opened, broadcastOf, broadcasts}
+use Rattle.model.specs.Selection.{selectedFor}
+use Rattle.model.specs.Answers.{answers, heard}
+use Rattle.model.specs.Refusals.{full, refuses}
+use Rattle.model.specs.Step.{whenFound, purges, manages, accepted, rule, Setting, line, unsound, PLACES, Step, after}
+use Rattle.model.proofs.Lists.{clash, both-true, conj-at, conj-all, all-true, true-all, all-keep, all-both, head-of}
+use Rattle.model.proofs.TableLaws.{length-changes}
+use Rattle.model.proofs.Apart.{stepBy, rows-rows}
+use Rattle.model.proofs.Locality.{ruleIn, local, adds-settles}
+use Rattle.model.proofs.SoundRows.{Row, row-of, of-row}
+use Rattle.model.proofs.SoundLines.{Line}
+use Rattle.model.proofs.SoundLaws.{Sound, sound-after}
+use Rattle.model.proofs.SoundStep.{create-passed, keeps-rule}
+use Rattle.model.specs.declared.Id.{Id}
+use Rattle.model.specs.declared.Event.{Event}
+use Rattle.model.specs.declared.Version.{Version}
+use Rattle.model.specs.declared.Outcome.{Outcome}
+use Rattle.model.specs.declared.Outcome.the-variants.{Malformed}
+
+-- ---- rising
+
+rising-from : (k : Id) (l : List Version) → above k l ≡ true → Under k l × Rising l
+rising-from k [] h = (tt, tt)
+rising-from k (y ∷ ys) h = at (order k (y .id)) refl h (rising-from (y .id) ys)
+  where
+    at : (o : Ordering) → order k (y .id) ≡ o → sel o (above (y .id) ys) false false ≡ true → (above (y .id) ys ≡ true → Under (y .id) ys × Rising ys)
+        → (order k (y .id) ≡ Ordering·lt) × (Under (y .id) ys × Rising ys)
+    at Ordering·lt e q f = (e, f q)
+    at Ordering·eq e q f = clash q
+    at Ordering·gt e q f = clash q
+
+pub rising-says : (t : List Version) → rising t ≡ true → Rising t
+rising-says [] h = tt
+rising-says (x ∷ xs) h = rising-from (x .id) xs h
+
+from-rising : (k : Id) (l : List Version) → Under k l → Rising l → above k l ≡ true
+from-rising k [] u r = refl
+from-rising k (y ∷ ys) u r = rw u (from-rising (y .id) ys (r .0) (r .1))
+
+pub says-rising : (t : List Version) → Rising t → rising t ≡ true
+says-rising [] r = refl
+says-rising (x ∷ xs) r = from-rising (x .id) xs (r .0) (r .1)
+
+-- ---- the rows of one number
+
+line-says : (r : List Version) → oneEach r ≡ true → Line r
+unfolding oneEach
+line-says r h =
+    let of : (i : ℕ) → getD (leb (count live r) 1 ∷ leb (count sends r) 1 ∷ leb (count worked r) 1 ∷ []) i true ≡ true
+    = conj-at (leb (count live r) 1 ∷ leb (count sends r) 1 ∷ leb (count worked r) 1 ∷ []) h in
+    record { lives = leb-true (count live r) 1 (of 0); sends = leb-true (count sends r) 1 (of 1); works = leb-true (count worked r) 1 (of 2) }
+
+says-line : (r : List Version) → Line r → oneEach r ≡ true
+unfolding oneEach
+says-line r l =
+    conj-all (leb (count live r) 1 ∷ leb (count sends r) 1 ∷ leb (count worked r) 1 ∷ [])
+    (with (le-leb (count live r) 1 (l .lives)) (with (le-leb (count sends r) 1 (l .sends)) (with (le-leb (count worked r) 1 (l .works)) none)))
+
+lines-say : (line : ℕ → ℕ) (t : List Version) → soundLines line t ≡ true → (l : ℕ) → Line (rowsOf line l t)
+unfolding soundLines
+lines-say line t h l = go (rowsOf line l t) refl
+  where
+    P : Version → Type 0
+    P v = oneEach (rowsOf line (line (v .id .tn .0)) t) ≡ true
+
+    each : All (λ (v : Version). P v × (line (v .id .tn .0) ≡ l)) (rowsOf line l t)
+    each = all-both (λ a p q. (p, q)) (all-keep _ (all-true (λ (v : Version). oneEach (rowsOf line (line (v .id .tn .0)) t)) t h)) (rows-rows line l t)
+
+    go : (r : List Version) → rowsOf line l t ≡ r → Line (rowsOf line l t)
+    go [] q = rw q (record { lives = omega arith; sends = omega arith; works = omega arith })
+    go (x ∷ xs) q =
+        let f : P x × (line (x .id .tn .0) ≡ l) = head-of (subst (All (λ (v : Version). P v × (line (v .id .tn .0) ≡ l))) q each) in
+        line-says (rowsOf line l t) (subst (λ (m : ℕ). oneEach (rowsOf line m t) ≡ true) (f .1) (f .0))
+
+say-lines : (line : ℕ → ℕ) (t : List Version) → ((l : ℕ) → Line (rowsOf line l t)) → soundLines line t ≡ true
+unfolding soundLines
+say-lines line t f = true-all (λ (v : Version). oneEach (rowsOf line (line (v .id .tn .0)) t)) (every t)
+  where
+    every : (l : List Version) → All (λ (v : Version). oneEach (rowsOf line (line (v .id .tn .0)) t) ≡ true) l
+    every [] = none
+    every (x ∷ xs) = with (says-line (rowsOf line (line (x .id .tn .0)) t) (f (line (x .id .tn .0)))) (every xs)
+
+-- ---- a table
+
+pub record SoundIn (line : ℕ → ℕ) (rows : ℕ) (t : List Version) : Type 0 where
+  pub few : rows ≤ 4096
+  pub held : length t ≤ rows
+  pub sound : Sound line t
+
+abbrev tableClauses : (ℕ → ℕ) → ℕ → List Version → List Bool
+tableClauses line rows t = leb rows 4096 ∷ leb (length t) rows ∷ rising t ∷ all soundVersion t ∷ soundLines line t ∷ []
+
+rows-say : (l : List Version) → All (λ (v : Version). soundVersion v ≡ true) l → All Row l
+rows-say [] none = none
+rows-say (x ∷ xs) (with h hs) = with (row-of x h) (rows-say xs hs)
+
+say-rows : (l : List Version) → All Row l → All (λ (v : Version). soundVersion v ≡ true) l
+say-rows [] none = none
+say-rows (x ∷ xs) (with h hs) = with (of-row x h) (say-rows xs hs)
+
+pub table-says : (line : ℕ → ℕ) (rows : ℕ) (t : List Version) → soundTable line rows t ≡ true → SoundIn line rows t
+unfolding soundTable
+table-says line rows t h =
+    let of : (i : ℕ) → getD (tableClauses line rows t) i true ≡ true = conj-at (tableClauses line rows t) h in
+    record {
+      few = leb-true rows 4096 (of 0);
+      held = leb-true (length t) rows (of 1);
+      sound = record { rising = rising-says t (of 2); rows = rows-say t (all-true soundVersion t (of 3)); lines = lines-say line t (of 4) };
+    }
+
+pub says-table : (line : ℕ → ℕ) (rows : ℕ) (t : List Version) → SoundIn line rows t → soundTable line rows t ≡ true
+unfolding soundTable
+says-table line rows t s =
+    conj-all (tableClauses line rows t)
+    (with (le-leb rows 4096 (s .few)) (with (le-leb (length t) rows (s .held)) (with (says-rising t (s .sound .rising)) (with (true-all soundVersion (say-rows t (s .sound .rows))) (with (say-lines line t (s .sound .lines)) none)))))
+
+-- ---- a row is added only where there is a free one
+
+abbrev room : Bool → ℕ
+room b = cond b 1 0
+
+adds-manages : (G : Given) (v : Version) → adds (manages (G .books) (G .event) v (rest G) .does) ≡ 0
+unfolding manages windowRuns broadcasts
+adds-manages G v =
+    go (among (G .event .kind) (3 ∷ 4 ∷ [])) (eqb (G .event .kind) 6) (eqb (G .event .kind) 7) (eqb (G .event .kind) 8) (eqb (G .event .kind) 13) (marks v) (isBroadcast (G .event .kind))
+  where
+    e : Event
+    e = G .event
+
+    go : (a b c d f m x : Bool) → adds (cond a (modifies e v) (cond b (turns (cancelled e v)) (cond c (turns (acknowledged e v)) (cond d (turns (resolved e v)) (cond f
+        (cond m (accept (windowTold (windowMarked e v)) (put (windowMarked e v) ∷ [])) (turns (windowTurned e v)))
+        (cond x (broadcastOf (opened (selectedFor (G .books) (v .id .tn .0)) e v) (rest G)) (purges v)))))) .does) ≡ 0
+    go true b c d f m x = refl
+    go false true c d f m x = refl
+    go false false true d f m x = refl
+    go false false false true f m x = refl
+    go false false false false true true x = refl
+    go false false false false true false x = refl
+    go false false false false false m true = omega (arith, adds-settles (λ (n : ℕ). n) 0 (opened (selectedFor (G .books) (v .id .tn .0)) e v) (rest G))
+    go false false false false false m false = refl
+
+adds-answers : (G : Given) (v : Version) → adds (answers (G .most) (G .event) v (rest G) .does) ≡ 0
+unfolding answers
+adds-answers G v = omega (arith, adds-settles (λ (n : ℕ). n) 0 (heard (G .most) (G .event) v) (rest G))
+
+adds-found : (o : Option Version) (f : Version → Result) → ((v : Version) → adds (f v .does) ≡ 0) → adds (whenFound o f .does) ≡ 0
+adds-found nothing f h = refl
+adds-found (some v) f h = h v
+
+pub adds-room : (G : Given) → isDone (judge (refuses G) (orderOf (G .event .kind))) ≡ true → adds (accepted G .does) ≤ room (G .free)
+unfolding accepted creates full
+adds-room G d = go (isCreate (G .event .kind)) refl (isAnswer (G .event .kind)) refl
+  where
+    fresh : isCreate (G .event .kind) ≡ true → (o : Option Version) → workedOne (G .rows) ≡ o → adds (createOn (G .event) (G .rows) o .does) ≤ room (G .free)
+    fresh k (some v) q = omega arith
+    fresh k nothing q =
+        let f : full G ≡ false = create-passed (refuses G) (rw k at d) .free in
+        let y : G .free ≡ true = not-false (G .free) (rw q at f) in
+        rw y (omega arith)
+
+    go : (a : Bool) → isCreate (G .event .kind) ≡ a → (b : Bool) → isAnswer (G .event .kind) ≡ b → adds (accepted G .does) ≤ room (G .free)
+    go true p b q = rw p (fresh p (workedOne (G .rows)) refl)
+    go false p true q = rw (p, q) (omega (arith, adds-found (found G) (λ (v : Version). answers (G .most) (G .event) v (rest G)) (adds-answers G)))
+    go false p false q = rw (p, q) (omega (arith, adds-found (found G) (λ (v : Version). manages (G .books) (G .event) v (rest G)) (adds-manages G)))
+
+adds-rule : (s : Setting) (free : Bool) (e : Event) (r : List Version) → adds (ruleIn s free e r .does) ≤ room free
+unfolding rule
+adds-rule s free e r = go (wellFormed e) refl (isDone (judge (refuses G) (orderOf (e .kind)))) refl
+  where
+    G : Given
+    G = record { books = s .books; most = s .most; free = free; event = e; rows = r }
+
+    go : (a : Bool) → wellFormed e ≡ a → (b : Bool) → isDone (judge (refuses G) (orderOf (e .kind))) ≡ b
+        → adds (cond a (cond b (accepted G) (refuse (judge (refuses G) (orderOf (e .kind))))) (refuse Malformed) .does) ≤ room free
+    go true p true q = adds-room G q
+    go true p false q = omega arith
+    go false p b q = omega arith
+
+-- ---- every step
+
+pub sound-rules : (lineOf : ℕ → ℕ) (s : Setting) → soundRetries (s .most) ≡ true → (e : Event) (t : List Version) → SoundIn lineOf (s .rows) t
+    → SoundIn lineOf (s .rows) (after (stepBy lineOf (ruleIn s) (s .rows)) e t)
+sound-rules lineOf s small e t i = record {
+  few = i .few;
+  held = go (ltb (length t) (s .rows)) refl;
+  sound = sound-after lineOf (ruleIn s) (local lineOf s) (s .rows) (keeps-rule lineOf s small) e t (i .sound);
+}
+  where
+    cs : List Change
+    cs = stepBy lineOf (ruleIn s) (s .rows) e t .does
+
+    grown : length (changes cs t) ≤ length t + room (ltb (length t) (s .rows))
+    grown = omega (arith, length-changes cs t, adds-rule s (ltb (length t) (s .rows)) e (rowsOf lineOf (lineOf (e .tn .0)) t))
+
+    go : (b : Bool) → ltb (length t) (s .rows) ≡ b → length (changes cs t) ≤ s .rows
+    go true q = let l : length t < s .rows = ltb-true (length t) (s .rows) q in let g : length (changes cs t) ≤ length t + 1 = rw q at grown in omega arith
+    go false q = let g : length (changes cs t) ≤ length t + 0 = rw q at grown in omega (arith, i .held)

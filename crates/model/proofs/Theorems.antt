@@ -1,0 +1,79 @@
+-- What is proved of document 01's rules. Each statement is whole here; its proof stands in the file that is cited.
+-- Assumes nothing.
+use mathlib.Core.Path.{_≡_, refl, sym, ap, _∙_, subst}
+use Prim.Native.Nat.{ℕ, _+_, _*_, _≤_, _<_}
+use mathlib.Core.Bool.{Bool, true, false, cond}
+use mathlib.Core.List.{List, []}
+use lib.ListN.{length, getD}
+use Rattle.model.specs.Basics.{All}
+use Rattle.model.specs.Table.{rowsOf, changes}
+use Rattle.model.specs.Sound.{soundTable}
+use Rattle.model.specs.Outcomes.{isDone}
+use Rattle.model.specs.Standing.{gridRule, kindAt}
+use Rattle.model.specs.Step.{Setting, line, unsound, step, stepOf, after}
+use Rattle.model.specs.Exchange.{Demand3}
+use Rattle.model.proofs.Lists.{clash}
+use Rattle.model.proofs.SoundTables.{says-table}
+use Rattle.model.proofs.Reordering.{Sane, sane-of, bare, bare-keeps, step-is, reordering}
+use Rattle.model.proofs.Effects.{modest-step, fine-step, other-rows}
+use Rattle.model.proofs.Worked.{allPass, examples, worked-examples, passes, listing, the-listing, slips, slips-shut-out}
+use Rattle.model.proofs.Cells.{cells, by-place}
+use Rattle.model.specs.declared.Version.{Version}
+use Rattle.model.specs.declared.Event.{Event}
+use Rattle.model.specs.declared.Message.{Message}
+use Rattle.model.specs.declared.Outcome.{Outcome}
+use Rattle.model.specs.declared.Outcome.the-variants.{Done, Unsound}
+
+-- On a sound table with sound books every event, accepted or refused, leaves a sound table: all clauses, all kinds. [V12]
+pub stays-sound : (s : Setting) (e : Event) (t : List Version) → unsound s t ≡ false → unsound s (after (stepOf s) e t) ≡ false
+stays-sound s e t h = rw (step-is s e t h) (bare-keeps s e t h)
+
+-- Every outcome 0 leaves a sound table, whatever was offered. [V12]
+pub done-sound : (s : Setting) (e : Event) (t : List Version) → isDone (stepOf s e t .out) ≡ true → soundTable (line s) (s .rows) (after (stepOf s) e t) ≡ true
+unfolding step
+done-sound s e t h = go (unsound s t) refl h
+  where
+    go : (b : Bool) → unsound s t ≡ b → isDone (stepOf s e t .out) ≡ true → soundTable (line s) (s .rows) (after (stepOf s) e t) ≡ true
+    go true q d = clash (rw q at d)
+    go false q d =
+        says-table (line s) (s .rows) (after (stepOf s) e t) (sane-of s (after (stepOf s) e t) (stays-sound s e t q) .table)
+
+-- A refusal has no messages and changes nothing. [O1]
+pub refusal-sends-nothing : (s : Setting) (e : Event) (t : List Version) → isDone (stepOf s e t .out) ≡ false → stepOf s e t .sent ≡ []
+refusal-sends-nothing s e t h = modest-step s e t .nothing-sent h
+
+pub refusal-changes-nothing : (s : Setting) (e : Event) (t : List Version) → isDone (stepOf s e t .out) ≡ false → after (stepOf s) e t ≡ t
+refusal-changes-nothing s e t h = rw (modest-step s e t .nothing-done h)
+
+-- An event sends at most 63 messages.
+pub at-most-63 : (s : Setting) (e : Event) (t : List Version) → length (stepOf s e t .sent) ≤ 63
+at-most-63 s e t = modest-step s e t .few
+
+-- A message names only its event's number.
+pub messages-of-the-number : (s : Setting) (e : Event) (t : List Version) → All (λ (m : Message). line s (m .id .tn .0) ≡ line s (e .tn .0)) (stepOf s e t .sent)
+messages-of-the-number s e t = fine-step s e t .about
+
+-- A step touches only rows of its number.
+pub rows-of-other-numbers : (s : Setting) (e : Event) (t : List Version) (l : ℕ) → (line s (e .tn .0) ≡ l → ⊥)
+    → rowsOf (line s) l (after (stepOf s) e t) ≡ rowsOf (line s) l t
+rows-of-other-numbers = other-rows
+
+-- Demand 3, in full: any number of allowed exchanges, all its premises, outcome 1 in front of the rules included. [H4]
+pub demand3 : Demand3
+demand3 = reordering
+
+-- P1 to P8. [H5]
+pub p1-to-p8 : allPass examples ≡ true
+p1-to-p8 = worked-examples
+
+-- The step program's listing. [Z1]
+pub step-listing : passes listing ≡ true
+step-listing = the-listing
+
+-- The three slips, each with what happens instead. [L1, L2, L3]
+pub slips-refused : allPass slips ≡ true
+slips-refused = slips-shut-out
+
+-- The grid's rule over all 297 entries of its table: status s, place j among the eleven kinds, standing w. [H6]
+pub grid-rule : (s j w : ℕ) → s < 9 → j < 11 → w < 3 → getD cells ((s * 11 + j) * 3 + w) 0 ≡ gridRule s (kindAt j) w
+grid-rule = by-place

@@ -1,0 +1,5 @@
+pub mod Spans
+pub mod KindCases
+pub mod Inverse
+pub mod Codec
+pub mod Theorems

@@ -1,0 +1,12 @@
+use borrow.Author.Needs.{needs}
+use Rattle.record.proofs.kinds.modifies_active.Statement.{statement}
+use Rattle.record.proofs.kinds.modifies_active.Tie as tie
+
+is-lrn-requires : tie.Need-is-lrn-requires
+is-lrn-requires c κs = search needs
+
+returns : tie.Need-returns
+returns c = rw (c .before .before .is-lrn .ensures)
+
+pub modifies-active-spec : {M : Type 1} → statement M
+modifies-active-spec = tie.close (tie.spec is-lrn-requires returns)

@@ -1,0 +1,21 @@
+use Rattle.model.specs.Record.{wellFormed}
+use borrow.Author.Needs.{needs}
+use Rattle.record.proofs.kinds.well_formed.Statement.{statement}
+use Rattle.record.proofs.kinds.well_formed.Tie as tie
+
+fits-bits-requires : tie.Need-fits-bits-requires
+fits-bits-requires c κs = search needs
+
+is-tn-requires : tie.Need-is-tn-requires
+is-tn-requires c κs = search needs
+
+kind-fits-requires : tie.Need-kind-fits-requires
+kind-fits-requires c κs = search needs
+
+returns : tie.Need-returns
+unfolding wellFormed
+returns c = rw (c .before .before .before .fits-bits .ensures, c .before .before .is-tn .ensures, c .kind-fits .ensures)
+
+pub well-formed-spec : {M : Type 1} → statement M
+well-formed-spec =
+    tie.close (tie.spec fits-bits-requires is-tn-requires kind-fits-requires returns)
