@@ -32,6 +32,13 @@ above-at [] k i r h = absurd (not-suc-le-zero h)
 above-at (v ∷ vs) k zero r h = r .0
 above-at (v ∷ vs) k (suc i) r h = lt-trans (r .0) (above-at vs (keyFor v) i (r .1) (le-of-suc-le-suc h))
 
+-- keys rise with places
+pub rises-at : (vs : List Version) (k i j : ℕ) → RisingFrom k vs → i < j → j < length vs → keyFor (versionAt vs i) < keyFor (versionAt vs j)
+rises-at [] k i j r l h = absurd (not-suc-le-zero h)
+rises-at (v ∷ vs) k i zero r l h = absurd (not-suc-le-zero l)
+rises-at (v ∷ vs) k zero (suc j) r l h = above-at vs (keyFor v) j (r .1) (le-of-suc-le-suc h)
+rises-at (v ∷ vs) k (suc i) (suc j) r l h = rises-at vs (keyFor v) i j (r .1) (le-of-suc-le-suc l) (le-of-suc-le-suc h)
+
 number-at : (vs : List Version) (i : ℕ) → Numbered vs → i < length vs → versionAt vs i .id .number < 65536
 number-at [] i n h = absurd (not-suc-le-zero h)
 number-at (v ∷ vs) zero n h = n .0

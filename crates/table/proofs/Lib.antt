@@ -18,3 +18,4 @@ pub mod Changed
 pub mod Told
 pub mod Steps
 pub mod Asked
+pub mod OneAnswer

@@ -2,8 +2,8 @@
 use mathlib.Core.Path.{_≡_, sym, ap, ap₂, _∙_, subst}
 use mathlib.Core.Bool.{Bool, true, false}
 use mathlib.Core.List.{List, [], _∷_, map}
-use Prim.Native.Nat.{ℕ, zero, suc, _-_, _^_, _≤_, _<_, zero-le, suc-le-suc}
-use native.Mathlib.Nat.{not-suc-le-zero, le-of-suc-le-suc, lt-trans}
+use Prim.Native.Nat.{ℕ, suc, _-_, _^_, _≤_, _<_, zero-le, suc-le-suc}
+use native.Mathlib.Nat.{lt-trans}
 use native.Mathlib.Omega.{arith}
 use lib.Dec.{ltb}
 use lib.ListN.{length, getD, length-map, replicate, List·getD-append}
@@ -24,6 +24,7 @@ use Rattle.table.proofs.Sounds.{AllSound, sound-at, RisingFrom}
 use Rattle.table.proofs.Tables.{rows-at, rows-encode, row-encode, encode-length}
 use Rattle.table.proofs.Finds.{keys-length, keys-at}
 use Rattle.table.proofs.Meant.{Good, table-good}
+use Rattle.table.proofs.Changed.{rises-at}
 
 -- the key of a sound version's row
 key-pack : (v : Version) → soundVersion v ≡ true → keyIn (pack v) ≡ keyFor v
@@ -53,16 +54,9 @@ keys-encode vs n a l =
     let k : i < length vs = rw keys-length at h in
     keys-at (length vs) (encode vs n) i k ∙ key-encode vs n i a l k)
 
-above-all : (k : ℕ) (vs : List Version) → RisingFrom k vs → (q : ℕ) → q < length vs → k < getD (keys vs) q 0
-above-all k [] r q h = absurd (not-suc-le-zero h)
-above-all k (v ∷ vs) r zero h = r .0
-above-all k (v ∷ vs) r (suc q) h = lt-trans (r .0) (above-all (keyFor v) vs (r .1) q (le-of-suc-le-suc h))
-
-all-rise : (k : ℕ) (vs : List Version) → RisingFrom k vs → (p q : ℕ) → p < q → q < length vs → getD (keys vs) p 0 < getD (keys vs) q 0
-all-rise k [] r p q l h = absurd (not-suc-le-zero h)
-all-rise k (v ∷ vs) r p zero l h = absurd (not-suc-le-zero l)
-all-rise k (v ∷ vs) r zero (suc q) l h = above-all (keyFor v) vs (r .1) q (le-of-suc-le-suc h)
-all-rise k (v ∷ vs) r (suc p) (suc q) l h = all-rise (keyFor v) vs (r .1) p q (le-of-suc-le-suc l) (le-of-suc-le-suc h)
+keys-rise : (vs : List Version) → RisingFrom 0 vs → (p q : ℕ) → p < q → q < length vs → getD (keys vs) p 0 < getD (keys vs) q 0
+keys-rise vs r p q l h =
+    rw (getD-map keyFor vs p (unpack []) 0 (lt-trans l h), getD-map keyFor vs q (unpack []) 0 h) (rises-at vs 0 p q r l h)
 
 past-le : (b : Bool) (m n : ℕ) → m ≤ n → past b m ≤ suc n
 past-le true m n h = suc-le-suc h
@@ -88,7 +82,7 @@ module _ (t : List ℕ) (n : ℕ) (s : SoundTable t n) where
   unfolding Rises
   sound-rises p q l h =
       let k : q < length (decode t) = omega (arith, keys-length n t, s .count) in
-      rw sound-keys (all-rise 0 (decode t) (sound-good .rises) p q l k)
+      rw sound-keys (keys-rise (decode t) (sound-good .rises) p q l k)
 
   pub sound-place : (k : ℕ) → lowerOf k (keysOf n t) ≡ placeIn k (decode t)
   unfolding placeIn
