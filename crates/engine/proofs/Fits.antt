@@ -67,6 +67,7 @@ module _ (rows : ℕ) (t : List Version) (s : soundTable itself rows t ≡ true)
     where
       at : lives ≡ One j x → (j < length t) × (versionAt t j ≡ x)
       at q = subst (Stands t) q (f .stands)
+
       go : (a b : Bool) → cond a Nobody (cond b lives Nobody) ≡ One j x → (j < length t) × (versionAt t j ≡ x)
       go true b q = absurd (let z : _≡_ {A = ℕ} 0 1 = cc in omega arith)
       go false true q = at q

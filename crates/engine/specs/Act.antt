@@ -5,13 +5,18 @@ use Prim.Native.Nat.{ℕ, _<_, _≤_}
 use mathlib.Core.Bool.{Bool, true, cond}
 use mathlib.Core.List.{List}
 use Rattle.model.specs.Basics.{All, first, isNone}
-use Rattle.model.specs.Books.{Books}
 use Rattle.model.specs.Table.{changes, rowsOf, others}
 use Rattle.model.specs.Sound.{live, worked}
 use Rattle.model.specs.Given.{Result, nameIn, newest}
-use Rattle.model.specs.Creates.{creates}
 use Rattle.model.specs.Closing.{open?, takesOver, settled, settles}
+use Rattle.model.specs.Record.{isBroadcast}
+use Rattle.model.specs.Selection.{selectedFor}
+use Rattle.model.specs.Broadcast.{opened, broadcasts}
+use Rattle.model.specs.Answers.{answering, heard}
 use Rattle.model.specs.Step.{manages}
+use Rattle.books.specs.Packed.{decodeBooks, soundBytes}
+use Rattle.rules.specs.Bounds.{Waits}
+use Rattle.model.specs.declared.Marks.{Marks}
 use Rattle.model.proofs.SoundRows.{Row}
 use Rattle.model.proofs.SoundLaws.{Brings}
 use Rattle.table.specs.Table.{decode, encode}
@@ -19,7 +24,7 @@ use Rattle.table.specs.Sound.{rowsIn, itself}
 use Rattle.table.specs.Survey.{Found, versionAt}
 use Rattle.table.specs.declared.survey.Seen.{Seen}
 use Rattle.table.specs.declared.survey.Seen.the-variants.{Nobody, One}
-use Rattle.telling.specs.Telling.{Told}
+use Rattle.telling.specs.Telling.{Told, Tellable}
 use Rattle.model.specs.declared.Id.{Id}
 use Rattle.model.specs.declared.Event.{Event}
 use Rattle.model.specs.declared.Version.{Version}
@@ -48,3 +53,36 @@ pub record Settling (t : List Version) (n i : ℕ) (w : Version) (lives : Seen) 
   pub fit : Fit t n i (settled w)
   pub live : Found t lives (first live (othersOf (w .id) t))
   pub rows : All (Brings Row) (settles w (othersOf (w .id) t))
+
+-- v stands at place i of n, and what x brings is sound
+pub record Standing (t : List Version) (n i : ℕ) (v : Version) (x : Result) : Type 0 where
+  pub place : i < n
+  pub stands : versionAt t i ≡ v
+  pub rows : All (Brings Row) (x .does)
+
+-- an awaited answer for v
+pub record Answerable (most : ℕ) (e : Event) (v : Version) : Type 0 where
+  pub few : most ≤ 7
+  pub waits : Waits (v .cast) (answering e)
+  pub before : Row v
+  pub after : Tellable (heard most e v)
+
+-- a broadcast for v, which stands at place i, that the books and the kind allow
+pub record Broadcastable (m : Marks) (b : List ℕ) (t : List Version) (n i : ℕ) (e : Event) (v : Version) (lives : Seen) : Type 0 where
+  pub sound : soundBytes m b ≡ true
+  pub place : i < n
+  pub stands : versionAt t i ≡ v
+  pub live : Found t lives (first live (othersOf (v .id) t))
+  pub rows : All (Brings Row) (broadcasts (decodeBooks m b) e v (othersOf (v .id) t) .does)
+  pub told : Tellable (opened (selectedFor (decodeBooks m b) (v .id .tn .0)) e v)
+  pub few : opened (selectedFor (decodeBooks m b) (v .id .tn .0)) e v .cast .purpose ≤ 3
+
+-- an accepted event of kinds 3 to 10 and 13 to 15 for v, which stands at place i
+pub record Manageable (m : Marks) (b : List ℕ) (t : List Version) (n i : ℕ) (e : Event) (v : Version) (lives : Seen) : Type 0 where
+  pub sound : soundBytes m b ≡ true
+  pub place : i < n
+  pub stands : versionAt t i ≡ v
+  pub live : Found t lives (first live (othersOf (v .id) t))
+  pub rows : All (Brings Row) (manages (decodeBooks m b) e v (othersOf (v .id) t) .does)
+  pub told : isBroadcast (e .kind) ≡ true → Tellable (opened (selectedFor (decodeBooks m b) (v .id .tn .0)) e v)
+  pub few : isBroadcast (e .kind) ≡ true → opened (selectedFor (decodeBooks m b) (v .id .tn .0)) e v .cast .purpose ≤ 3

@@ -1,21 +1,28 @@
 // What an accepted event does to the table and tells: each function leaves just what the model's result says.
+use crate::judge;
+use model::Event;
+use model::Marks;
 use model::Version;
 use table::survey::Seen;
 ghost use mathlib.Core.Path.{_≡_};
 ghost use mathlib.Core.List.{[], _∷_, _++_};
 ghost use Prim.Native.Nat.{_≤_, _<_};
-ghost use Rattle.model.specs.Table.{put, change, changes};
+ghost use Rattle.model.specs.Basics.{among};
+ghost use Rattle.model.specs.Table.{put, add, change, changes};
 ghost use Rattle.model.specs.Given.{accept};
 ghost use Rattle.model.specs.Tray.{restatedTold, windowTold, downloads, createdTold};
-ghost use Rattle.model.specs.Changes.{turns};
+ghost use Rattle.model.specs.Changes.{turns, windowRuns};
+ghost use Rattle.model.specs.Answers.{heard, answers};
 ghost use Rattle.model.specs.Closing.{settled, settles, settlingTold};
-ghost use Rattle.model.specs.Broadcast.{broadcastOf};
-ghost use Rattle.model.specs.Step.{purges};
+ghost use Rattle.model.specs.Broadcast.{broadcastOf, broadcasts};
+ghost use Rattle.model.specs.Step.{manages};
 ghost use Rattle.table.specs.Table.{decode, encode};
 ghost use Rattle.table.specs.Sound.{SoundTable, rowsIn};
-ghost use Rattle.table.specs.Survey.{versionAt};
+ghost use Rattle.table.specs.Change.{Fresh};
+ghost use Rattle.books.specs.Packed.{decodeBooks};
+ghost use Rattle.telling.specs.Telling.{Tellable};
 ghost use Rattle.tray.specs.Tray.{placesIn};
-ghost use Rattle.engine.specs.Act.{Acted, Fit, Settling, othersOf, replacedBy};
+ghost use Rattle.engine.specs.Act.{Acted, Fit, Settling, othersOf, replacedBy, Answerable, Standing, Broadcastable, Manageable};
 
 // w in its row, and its status told.
 pub fn put_turned(table: &mut [u8], n: usize, i: usize, w: Version, tray: &mut [u8]) -> usize
@@ -84,4 +91,136 @@ pub fn settle(table: &mut [u8], n: usize, i: usize, w: Version, lives: Seen)
             table::change::put_at(table, n, i, s);
         }
     }
+}
+
+// w in a broadcast that starts: downloads, or all that its close brings.
+fn put_broadcast(
+    table: &mut [u8],
+    n: usize,
+    i: usize,
+    w: Version,
+    lives: Seen,
+    tray: &mut [u8],
+) -> usize
+    requires { ⌜ SoundTable (now table) n ⌝ }
+    requires { ⌜ Settling (decode (now table)) n i w lives × (64 ≤ placesIn (now tray)) × Tellable w × (w .cast .purpose ≤ 3) ⌝ }
+    ensures { λ r. ⌜ Acted (broadcastOf w (othersOf (w .id) (decode (now (table .entry))))) (now (table .entry)) (now (tray .entry)) (now (table .exit)) (now (tray .exit)) r ⌝ }
+{
+    settle(table, n, i, w, lives);
+    telling::broadcast(tray, w)
+}
+
+// An awaited answer for v, at place i.
+pub fn put_answered(
+    most: u8,
+    table: &mut [u8],
+    n: usize,
+    i: usize,
+    e: Event,
+    v: Version,
+    lives: Seen,
+    tray: &mut [u8],
+) -> usize
+    requires { ⌜ SoundTable (now table) n ⌝ }
+    requires { ⌜ Answerable most e v × Settling (decode (now table)) n i (heard most e v) lives × (64 ≤ placesIn (now tray)) ⌝ }
+    ensures { λ r. ⌜ Acted (answers most e v (othersOf (v .id) (decode (now (table .entry))))) (now (table .entry)) (now (tray .entry)) (now (table .exit)) (now (tray .exit)) r ⌝ }
+{
+    let p = rules::cast::answering(e);
+    let again = rules::cast::again(most, e, v.cast);
+    let w = rules::cast::heard(most, e, v);
+    settle(table, n, i, w, lives);
+    telling::answered(tray, again, p, v, w)
+}
+
+// w, whose name the table lacks, as a fresh version.
+pub fn add_fresh(table: &mut [u8], n: usize, w: Version, tray: &mut [u8]) -> usize
+    requires { ⌜ SoundTable (now table) n ⌝ }
+    requires { ⌜ Fresh (decode (now table)) n (rowsIn (now table)) w × Tellable w × (64 ≤ placesIn (now tray)) ⌝ }
+    ensures { λ r. ⌜ Acted (accept (createdTold w) (add w ∷ [])) (now (table .entry)) (now (tray .entry)) (now (table .exit)) (now (tray .exit)) r ⌝ }
+{
+    table::change::add_new(table, n, w);
+    telling::created(tray, w)
+}
+
+// The window ran out for v, at place i.
+fn put_window(table: &mut [u8], n: usize, i: usize, e: Event, v: Version, tray: &mut [u8]) -> usize
+    requires { ⌜ SoundTable (now table) n ⌝ }
+    requires { ⌜ Standing (decode (now table)) n i v (windowRuns e v) × (64 ≤ placesIn (now tray)) ⌝ }
+    ensures { λ r. ⌜ Acted (windowRuns e v) (now (table .entry)) (now (tray .entry)) (now (table .exit)) (now (tray .exit)) r ⌝ }
+{
+    if rules::sides::window_marks(v) {
+        let w = rules::sides::window_marked(e, v);
+        return put_marked(table, n, i, w, tray);
+    }
+    let w = rules::sides::window_turned(e, v);
+    put_turned(table, n, i, w, tray)
+}
+
+// A broadcast for v, at place i, of those whom the books select.
+fn broadcast(
+    marks: Marks,
+    books: &[u8],
+    table: &mut [u8],
+    n: usize,
+    i: usize,
+    e: Event,
+    v: Version,
+    lives: Seen,
+    tray: &mut [u8],
+) -> usize
+    requires { ⌜ SoundTable (now table) n ⌝ }
+    requires { ⌜ Broadcastable marks (now books) (decode (now table)) n i e v lives × (64 ≤ placesIn (now tray)) ⌝ }
+    ensures { λ r. ⌜ Acted (broadcasts (decodeBooks marks (now (books .entry))) e v (othersOf (v .id) (decode (now (table .entry))))) (now (table .entry)) (now (tray .entry)) (now (table .exit)) (now (tray .exit)) r ⌝ }
+{
+    let s = selection::selected(marks, books, v.id.tn.0 / 10000);
+    let w = rules::cast::opened(s, e, v);
+    put_broadcast(table, n, i, w, lives, tray)
+}
+
+fn is_modify(kind: u8) -> bool
+    ensures { λ r. ⌜ r ≡ among kind (3 ∷ 4 ∷ []) ⌝ }
+{
+    (kind == 3) | ((kind == 4) | false)
+}
+
+// An accepted event of kinds 3 to 10 and 13 to 15 for v, at place i.
+pub fn manage(
+    marks: Marks,
+    books: &[u8],
+    table: &mut [u8],
+    n: usize,
+    i: usize,
+    e: Event,
+    v: Version,
+    lives: Seen,
+    tray: &mut [u8],
+) -> usize
+    requires { ⌜ SoundTable (now table) n ⌝ }
+    requires { ⌜ Manageable marks (now books) (decode (now table)) n i e v lives × (64 ≤ placesIn (now tray)) ⌝ }
+    ensures { λ r. ⌜ Acted (manages (decodeBooks marks (now (books .entry))) e v (othersOf (v .id) (decode (now (table .entry))))) (now (table .entry)) (now (tray .entry)) (now (table .exit)) (now (tray .exit)) r ⌝ }
+{
+    if is_modify(e.kind) {
+        let w = rules::sides::modified(e, v);
+        return put_restated(table, n, i, v, w, tray);
+    }
+    if e.kind == 6 {
+        let w = rules::sides::cancelled(e, v);
+        return put_turned(table, n, i, w, tray);
+    }
+    if e.kind == 7 {
+        let w = rules::sides::acknowledged(e, v);
+        return put_turned(table, n, i, w, tray);
+    }
+    if e.kind == 8 {
+        let w = rules::sides::resolved(e, v);
+        return put_turned(table, n, i, w, tray);
+    }
+    if e.kind == 13 {
+        return put_window(table, n, i, e, v, tray);
+    }
+    if judge::is_broadcast(e.kind) {
+        return broadcast(marks, books, table, n, i, e, v, lives, tray);
+    }
+    table::change::strike_at(table, n, i);
+    0
 }

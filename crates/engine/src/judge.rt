@@ -227,7 +227,7 @@ fn unready(e: Event, v: Version) -> bool
     (e.kind == 14) & (v.status == 6) & (v.cast.failed == 0)
 }
 
-fn is_broadcast(kind: u8) -> bool
+pub fn is_broadcast(kind: u8) -> bool
     ensures { λ r. ⌜ r ≡ isBroadcast kind ⌝ }
 {
     (kind == 5) | ((kind == 9) | ((kind == 10) | ((kind == 14) | false)))

@@ -17,16 +17,18 @@ retired-requires : tie.Need-retired-requires
 retired-requires c κs = search needs
 
 put-two-requires : tie.Need-put-two-requires
-put-two-requires c κs = 
-    let s = c .before .before .before .before .before .before .before .before in
-    (s .pre .0, two-asked _ _ _ (s .args .w) (s .args .lives) (s .pre .0) (s .pre .1) _ _ _ _ (c .before .before .before .before .before .before .settled .ensures) (c .before .retired .ensures)
-    (sym (c .before .before .before .before .before .replaced .ensures) ∙ c .before .before .before .over .given .1))
+put-two-requires c κs =
+    let s = c .before .before .before .before .before .before .before .before in (
+      s .pre .0,
+      two-asked _ _ _ (s .args .w) (s .args .lives) (s .pre .0) (s .pre .1) _ _ _ _ (c .before .before .before .before .before .before .settled .ensures) (c .before .retired .ensures)
+          (sym (c .before .before .before .before .before .replaced .ensures) ∙ c .before .before .before .over .given .1),
+    )
 
 enum-told : tie.Need-enum-told
 enum-told c = search needs
 
 put-at-requires : tie.Need-put-at-requires
-put-at-requires c κs = 
+put-at-requires c κs =
     let s = c .before .before .before .before .before .before in
     (s .pre .0, one-asked _ _ _ (s .args .w) (s .args .lives) (s .pre .0) (s .pre .1) _ (c .before .before .before .before .settled .ensures))
 
@@ -34,7 +36,7 @@ same-length : tie.Need-same-length
 same-length c = search needs
 
 returns : tie.Need-returns
-returns c = 
+returns c =
     let s = c .before .before .before .before .before .before .before .before .before .before .before in
     two-put _ _ _ (s .args .w) (s .args .lives) (s .pre .0) (s .pre .1) _ _ _ _ _ (c .before .before .before .before .before .before .before .before .before .settled .ensures) (c .before .before .before .before .retired .ensures)
     (sym (c .before .before .before .before .before .before .before .before .replaced .ensures) ∙ c .before .before .before .before .before .before .over .given .1) (c .before .before .put-two .ensures)
@@ -43,7 +45,7 @@ same-length-2 : tie.Need-same-length-2
 same-length-2 c = search needs
 
 returns-2 : tie.Need-returns-2
-returns-2 c = 
+returns-2 c =
     let s = c .before .before .before .before .before .before .before .before .before in
     one-put _ _ _ (s .args .w) (s .args .lives) (s .pre .0) (s .pre .1) _ _ (c .before .before .before .before .before .before .before .settled .ensures)
     (sym (c .before .before .before .before .before .before .replaced .ensures) ∙ c .before .before .before .before .enum-told .given .1) (c .before .before .put-at .ensures)
