@@ -5,3 +5,4 @@ pub mod Join
 pub mod Sound
 pub mod Find
 pub mod Survey
+pub mod Change

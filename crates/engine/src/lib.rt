@@ -1,0 +1,2 @@
+// One step: check, read, decide, write.
+pub mod judge;

@@ -1,0 +1,22 @@
+-- What a change of a table asks of the version and its place. [T2]
+-- Assumes nothing.
+use mathlib.Core.Path.{_≡_}
+use mathlib.Core.Option.{none}
+use mathlib.Core.List.{List}
+use Prim.Native.Nat.{ℕ, _<_}
+use Rattle.model.specs.declared.Version.{Version}
+use Rattle.model.specs.Table.{find}
+use Rattle.row.specs.Layout.{Small}
+use Rattle.table.specs.Survey.{versionAt}
+
+-- v may be put at place i of a table that says t, n versions: the version there has its name
+pub record Over (t : List Version) (n i : ℕ) (v : Version) : Type 0 where
+  pub place : i < n
+  pub name : versionAt t i .id ≡ v .id
+  pub small : Small v
+
+-- v may be added to a table of so many rows that says t, n versions: a row is free, and no version has its name
+pub record Fresh (t : List Version) (n rows : ℕ) (v : Version) : Type 0 where
+  pub free : n < rows
+  pub absent : find (v .id) t ≡ none
+  pub small : Small v
