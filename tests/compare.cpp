@@ -326,7 +326,7 @@ void printTally() {
 }  // namespace
 
 int main(int argc, char **argv) {
-    uint64_t wanted = argc > 1 ? std::strtoull(argv[1], nullptr, 10) : DEFAULT_EVENTS;
+    uint64_t wanted = argc > 1 ? std::strtoull(argv[1], nullptr, 10) : 1000000;
     tally.seed = argc > 2 ? std::strtoull(argv[2], nullptr, 10) : 1;
     tally.sequence = argc > 3 ? std::strtoull(argv[3], nullptr, 10) : 1;
     if (argc <= 3) runFlows();

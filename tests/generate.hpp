@@ -157,10 +157,11 @@ inline Version makeVersion(Dice &d, const Situation &s, Tn tn, uint64_t number, 
 
 inline void makeVersionsOf(Dice &d, Situation &s, Tn tn, std::vector<Version> &out) {
     bool live = false, sending = false, workedOne = false;
+    size_t first = out.size();
     uint64_t count = d.below(6), number = d.chance(12) ? 65535 - 3 * count + d.below(3) : 0;
     for (uint64_t i = 0; i < count; i++) {
         number += i + 1 == count && d.chance(10) ? 65535 - number : d.between(1, 3);
-        if (number > 65535) return;
+        if (number > 65535) break;
         Status status = Status(d.below(9));
         bool isWorked = status <= CANCEL_PENDING, needsLive = status == PARTIAL_FAILURE || status == ACTIVE;
         if ((isWorked && workedOne) || (needsLive && live) || (status == SENDING && sending)) status = d.chance(50) ? OLD : CANCELED;
@@ -168,8 +169,14 @@ inline void makeVersionsOf(Dice &d, Situation &s, Tn tn, std::vector<Version> &o
         live = live || out.back().live;
         sending = sending || out.back().status == SENDING;
         workedOne = workedOne || worked(out.back());
-        if (number == 65535) return;
+        if (number == 65535) break;
     }
+    // Mostly the worked version is taken from the current provider, so that creates come as far as 9.
+    Provider current = ownerOf(s.books, codeOf(tn));
+    for (size_t i = first; i < out.size(); i++)
+        if (out[i].live) current = out[i].newProvider;
+    for (size_t i = first; i < out.size(); i++)
+        if (worked(out[i]) && current != 0 && current != out[i].newProvider && d.chance(75)) out[i].oldProvider = current;
 }
 
 inline void makeTable(Dice &d, Situation &s, const std::vector<Code> &homes, size_t freeRows) {
@@ -354,7 +361,11 @@ inline Event spoilt(Dice &d, const Situation &s, Event e) {
         break;
     case 7:  // the worked version once more: a second create, a second cancel, a second window
         v = workedVersion(s.table, e.tn);
-        if (!v || d.chance(40)) return aCreate(d, s, e.tn);
+        if (!v || d.chance(40)) {
+            e = aCreate(d, s, e.tn);
+            if (d.chance(50)) (e.kind == NEW_CREATES ? e.sender : e.other) = anyPresent(d, s);
+            return e;
+        }
         e = plain(d.chance(60) ? ACKNOWLEDGES : WINDOW_RAN_OUT, *v, NPAC);
         if (e.kind == ACKNOWLEDGES) e.sender = v->canceller == NEW_SIDE ? v->newProvider : v->oldProvider;
         return filled(d, s, e, 0);
