@@ -348,6 +348,10 @@ inline Event spoilt(Dice &d, const Situation &s, Event e) {
         if (v && e.kind == ACTIVATES && d.chance(50)) edge = v->newDue;
         if (v && (e.kind == REPLY || e.kind == SILENCE)) edge = v->start;
         if (edge > 1) e.time = d.chance(70) ? edge - 1 : d.between(1, edge - 1);
+        if (v && e.kind == REPLY && d.chance(25)) {  // early, and from a system that has answered
+            if (!v->confirmed.empty()) e.sender = *v->confirmed.begin();
+            else if (!v->failed.empty()) e.sender = *v->failed.rbegin();
+        }
         break;
     }
     case 2:

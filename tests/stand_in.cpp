@@ -32,6 +32,7 @@ extern "C" lupinenblatt_answer lupinenblatt_step_default(uint8_t *table, size_t 
     return lupinenblatt_step(table, tableLength, providers, providersLength, books, booksLength, 0, event, eventLength, tray, trayLength);
 }
 
+#ifndef RECORDS_FROM_LIBRARY
 extern "C" uint8_t lupinenblatt_record_read(const uint8_t *bytes, size_t length, uint64_t *fields, size_t places) {
     std::optional<Fields> f = readRecord(bytes, length);
     if (!f || places != f->size()) return MALFORMED;
@@ -46,3 +47,4 @@ extern "C" uint8_t lupinenblatt_record_write(uint64_t kind, uint64_t sender, uin
     std::copy(bytes->begin(), bytes->end(), out);
     return DONE;
 }
+#endif
