@@ -52,7 +52,10 @@ inline void makeProviders(Dice &d, Situation &s) {
     else if (shape < 78) present = {1, 2, 5, 9}, localSms = 0;
     else if (shape < 92) present = {1, 2, 21, 22, 42, 43, 62, 63};
     else if (shape < 98) for (uint64_t n = d.between(2, 6); present.size() < n;) present.insert(d.between(1, 63));
-    else if (d.chance(50)) for (Provider p = 1; p <= 63; p++) present.insert(p);
+    else if (d.chance(70)) {
+        for (Provider p = 1; p <= 63; p++) present.insert(p);
+        localSms = 100;
+    }
     Provider last = present.empty() ? 0 : *present.rbegin();
     s.books.providers.resize(d.chance(50) ? 63 : d.between(last, 63));
     for (Provider p : present) {
@@ -142,9 +145,9 @@ inline Version makeVersion(Dice &d, const Situation &s, Tn tn, uint64_t number, 
     if (status == FAILED || status == PARTIAL_FAILURE || (status == SENDING && !mayLive)) v.purpose = ACTIVATE;
     v.live = status == PARTIAL_FAILURE || status == ACTIVE || (status == SENDING && (v.purpose != ACTIVATE || (mayLive && d.chance(30))));
     bool sets = (status >= SENDING && status <= OLD) || d.chance(15);
-    if (sets) v.confirmed = anySystems(d, s, {}, {}, v.live && v.purpose == ACTIVATE && d.chance(80) ? 1 : 0);
+    if (status == SENDING) v.waiting = anySystems(d, s, {}, {}, 1);
+    if (sets) v.confirmed = anySystems(d, s, v.waiting, {}, v.live && v.purpose == ACTIVATE && d.chance(80) ? 1 : 0);
     if (status == SENDING) {
-        v.waiting = anySystems(d, s, v.confirmed, {}, 1);
         v.start = after(s.base, d.below(30));
         for (Provider p : v.waiting)
             if (d.chance(35)) v.retries[p] = d.between(1, 7);
@@ -188,9 +191,10 @@ inline void makeTable(Dice &d, Situation &s, const std::vector<Code> &homes, siz
     }
     for (uint64_t n = d.chance(30) ? d.below(8) : 0; n > 0; n--) tns.insert(Tn{anyTenDigits(d)});
     if (d.chance(1) && d.chance(30))
-        while (tns.size() < 1500) tns.insert(Tn{anyTenDigits(d)});
+        while (tns.size() < 1800) tns.insert(Tn{anyTenDigits(d)});
     for (Tn tn : tns) makeVersionsOf(d, s, tn, s.table.used);
-    if (s.table.used.size() > 4000) s.table.used.resize(4000);
+    size_t most = d.chance(50) ? 4096 : 4000;
+    if (s.table.used.size() > most) s.table.used.resize(most);
     s.table.freeRows = std::min<size_t>(freeRows, 4096 - s.table.used.size());
 }
 
@@ -372,7 +376,9 @@ inline Event spoilt(Dice &d, const Situation &s, Event e) {
         }
         e = plain(d.chance(60) ? ACKNOWLEDGES : WINDOW_RAN_OUT, *v, NPAC);
         if (e.kind == ACKNOWLEDGES) e.sender = v->canceller == NEW_SIDE ? v->newProvider : v->oldProvider;
-        return filled(d, s, e, 0);
+        e = filled(d, s, e, 0);
+        if (d.chance(30)) e.time = std::max<Time>(1, largestStamp(s.table, e.tn) - 1);
+        return e;
     case 6:
         e.tn.digits = d.chance(50) ? anyTenDigits(d) : e.tn.digits / 10 * 10 + d.below(10);
         break;
@@ -457,13 +463,43 @@ inline void damageVersion(Dice &d, Version &v) {
     }
 }
 
+// A whole side taken away or another status with all that belongs to it, so that at most one clause is broken.
+inline void damageJointly(Dice &d, Version &v) {
+    uint64_t way = d.below(8);
+    if (way == 0 || way == 2) v.newCreated = false, v.lrn = Lrn{}, v.newDue = 0;
+    if (way == 1 || way == 2) v.oldCreated = false, v.authorization = NONE, v.cause = 0, v.oldDue = 0;
+    if (way < 3) return;
+    v.status = Status(d.below(9));
+    v.canceller = v.status != CANCEL_PENDING ? NOBODY : d.chance(50) ? NEW_SIDE : OLD_SIDE;
+    v.start = v.status == SENDING ? v.stamp : 0;
+    v.retries.clear();
+    v.waiting.clear();
+    if (v.status == SENDING)
+        for (Provider p = 1; v.waiting.empty(); p++)
+            if (!v.confirmed.count(p) && !v.failed.count(p)) v.waiting.insert(p);
+    v.purpose = v.status < SENDING || v.status > ACTIVE ? NO_PURPOSE : d.chance(60) ? ACTIVATE : Purpose(d.between(ACTIVATE, DISCONNECT));
+    v.live = v.status == PARTIAL_FAILURE || v.status == ACTIVE || (v.status == SENDING && (v.purpose != ACTIVATE || d.chance(30)));
+}
+
+// A bit of a row that no value has.
+inline size_t spareBit(Dice &d) {
+    switch (d.below(4)) {
+    case 0: return 58 + d.below(6);
+    case 1: return 64 + 59 + d.below(5);
+    case 2: return 64 * d.between(4, 6) + 63;
+    default: return 64 * d.between(7, 9);
+    }
+}
+
 // Two rows of a TN where there was one; equal keys; rows exchanged; a hole; an odd byte in a free row; a spare bit; another length.
 inline Bytes damagedTable(Dice &d, Table t) {
     Bytes out;
     size_t used = t.used.size();
     uint64_t way = d.below(100);
-    if (used > 0 && way < 50) {
+    if (used > 0 && way < 36) {
         for (uint64_t n = d.chance(75) ? 1 : 2; n > 0; n--) damageVersion(d, t.used[d.below(used)]);
+    } else if (used > 0 && way < 50) {
+        damageJointly(d, t.used[d.below(used)]);
     } else if (used > 0 && way < 65) {
         size_t i = d.below(used);
         Version copy = t.used[i];
@@ -485,8 +521,8 @@ inline Bytes damagedTable(Dice &d, Table t) {
         size_t from = used * ROW, length = out.size() - from;
         if (length > 0) out[from + d.below(length)] = uint8_t(d.between(1, 255));
     } else if (way < 95) {
-        size_t bit = d.below((used > 0 ? used * ROW : out.size()) * 8);
-        out[bit / 8] = uint8_t(out[bit / 8] ^ 1u << bit % 8);
+        size_t row = d.below(used > 0 ? used : out.size() / ROW), bit = row * ROW * 8 + (d.chance(60) ? spareBit(d) : d.below(ROW * 8));
+        out[bit / 8] = uint8_t(out[bit / 8] ^ 128u >> bit % 8);
     } else {
         out.resize(d.chance(60) ? out.size() + d.below(81) : d.chance(80) ? out.size() - std::min<size_t>(out.size(), 1 + d.below(79)) : 4097 * ROW, 0);
     }
