@@ -481,6 +481,22 @@ inline void damageJointly(Dice &d, Version &v) {
     v.live = v.status == PARTIAL_FAILURE || v.status == ACTIVE || (v.status == SENDING && (v.purpose != ACTIVATE || d.chance(30)));
 }
 
+// One value just beyond its range, where everything else stays as it should be.
+inline void damageEdge(Dice &d, Version &v) {
+    auto badDigits = [&](uint64_t n) { return d.chance(50) ? n % 1000000 + n / 10000000 * 10000000 + d.below(2) * 1000000 : n % 1000000000 + d.below(2) * 1000000000; };
+    for (;;) switch (d.below(9)) {
+    case 0: if (v.status != CANCELED) continue; v.status = Status(d.between(9, 15)); return;
+    case 1: if (v.status != CANCEL_PENDING) continue; v.canceller = Side(3); return;
+    case 2: if (v.authorization != NO) continue; v.cause = d.chance(50) ? 100 : d.between(100, 127); return;
+    case 3: if (v.authorization != YES) continue; v.authorization = Authorization(3); return;
+    case 4: v.number = 0; return;
+    case 5: (d.chance(50) ? v.newProvider : v.oldProvider) = 0; return;
+    case 6: if (!v.newCreated) continue; v.lrn.digits = badDigits(v.lrn.digits); return;
+    case 7: v.tn.digits = badDigits(v.tn.digits); return;
+    default: if (!v.newCreated) continue; v.lrn.digits = d.between(10000000000, 17179869183); return;
+    }
+}
+
 // A bit of a row that no value has.
 inline size_t spareBit(Dice &d) {
     switch (d.below(4)) {
@@ -496,10 +512,12 @@ inline Bytes damagedTable(Dice &d, Table t) {
     Bytes out;
     size_t used = t.used.size();
     uint64_t way = d.below(100);
-    if (used > 0 && way < 36) {
+    if (used > 0 && way < 28) {
         for (uint64_t n = d.chance(75) ? 1 : 2; n > 0; n--) damageVersion(d, t.used[d.below(used)]);
-    } else if (used > 0 && way < 50) {
+    } else if (used > 0 && way < 41) {
         damageJointly(d, t.used[d.below(used)]);
+    } else if (used > 0 && way < 50) {
+        damageEdge(d, t.used[d.below(used)]);
     } else if (used > 0 && way < 65) {
         size_t i = d.below(used);
         Version copy = t.used[i];
