@@ -1,0 +1,342 @@
+// The library beside the model, event by event: outcome, count, every byte of the table and every byte of the tray.
+//
+//     compare [events] [seed] [first sequence]
+//
+// Sequences of events over sound situations, with damaged slices between; neighbours exchanged as demand 3 allows; records; the 35 flows.
+// Sequence n of a seed is always the same, so a difference is replayed with its seed and its number.
+#include <cstdio>
+#include <cstring>
+#include <filesystem>
+#include <fstream>
+
+#include "calls.h"
+#include "generate.hpp"
+#include "scenario.hpp"
+
+using namespace paper;
+
+namespace {
+
+// What is handed to a call, apart from the event.
+struct Slices {
+    Bytes table, providers, books, tray;
+    uint64_t R = 0;
+    bool shortCall = false;  // the call without R
+};
+
+struct Tally {
+    uint64_t events = 0, differ = 0, records = 0, exchanged = 0, unsoundAfter = 0;
+    uint64_t outcomes[17][16] = {};  // by kind (0 and 16: no kind) and outcome
+    uint64_t seed = 0, sequence = 0;
+} tally;
+
+std::string nonZeroLines(const Bytes &bytes) {
+    std::string text = std::to_string(bytes.size()) + " bytes (lines not shown are zero)\n";
+    for (size_t at = 0; at < bytes.size(); at += 40) {
+        size_t length = std::min<size_t>(40, bytes.size() - at);
+        if (!allZero(bytes.data() + at, length)) text += "    " + std::to_string(at) + ": " + hexOf(bytes.data() + at, length) + "\n";
+    }
+    return text;
+}
+
+void printSide(const char *who, uint64_t outcome, uint64_t count, const Bytes &table, const Bytes &tray) {
+    std::printf("%s: outcome %llu, %llu messages\n", who, (unsigned long long)outcome, (unsigned long long)count);
+    for (uint64_t i = 0; i < count && (i + 1) * MESSAGE <= tray.size(); i++)
+        std::printf("    %s   %s\n", hexOf(tray.data() + i * MESSAGE, MESSAGE).c_str(), textOf(unpackMessage(tray.data() + i * MESSAGE)).c_str());
+    std::printf("  table after: %s", nonZeroLines(table).c_str());
+}
+
+// The first difference with everything needed to replay it; of later ones a line.
+void report(const char *what, const Slices &before, const Bytes &record) {
+    tally.differ++;
+    std::printf("DIFFERENCE %llu: %s; replay: tests/compare 1 %llu %llu\n", (unsigned long long)tally.differ, what,
+                (unsigned long long)tally.seed, (unsigned long long)tally.sequence);
+    if (tally.differ > 1) return;
+    std::printf("event: %s\nR: %llu%s\n", hexOf(record.data(), record.size()).c_str(), (unsigned long long)before.R,
+                before.shortCall ? " (the short call)" : "");
+    std::printf("table: %sproviders: %s\nbooks: %stray: %s", nonZeroLines(before.table).c_str(),
+                hexOf(before.providers.data(), before.providers.size()).c_str(), nonZeroLines(before.books).c_str(),
+                nonZeroLines(before.tray).c_str());
+    std::optional<Table> t = unpackTable(before.table.data(), before.table.size());
+    std::optional<Books> b = unpackBooks(before.providers.data(), before.providers.size(), before.books.data(), before.books.size());
+    if (!t || !b) return;
+    std::printf("as a scenario:\n%s", textOf(Scenario{*b, *t, before.R, before.tray.size() / MESSAGE, {record}}).c_str());
+}
+
+lupinenblatt_answer callLibrary(Slices &s, const Bytes &record) {
+    static uint8_t nothing[1];  // a slice's pointer is never null
+    auto at = [](auto &bytes) { return bytes.empty() ? nothing : const_cast<uint8_t *>(bytes.data()); };
+    if (s.shortCall)
+        return lupinenblatt_step_default(at(s.table), s.table.size(), at(s.providers), s.providers.size(), at(s.books), s.books.size(),
+                                         at(record), record.size(), at(s.tray), s.tray.size());
+    return lupinenblatt_step(at(s.table), s.table.size(), at(s.providers), s.providers.size(), at(s.books), s.books.size(), s.R, at(record),
+                             record.size(), at(s.tray), s.tray.size());
+}
+
+// One event through both. The slices are the library's, table and books the model's. False where they differ.
+bool compareStep(Slices &s, const Bytes &record, std::optional<Table> &table, const std::optional<Books> &books, Result &model,
+                 lupinenblatt_answer &library) {
+    static Slices before;
+    static Bytes table2, tray2;
+    before = s;
+    library = callLibrary(s, record);
+    model = step(table, books, s.R, unpackEvent(record.data(), record.size()), s.tray.size() / MESSAGE);
+    tray2 = before.tray;
+    if (model.outcome == DONE) {
+        packTable(*table, table2);
+        packTray(model.messages, tray2.data());
+    } else {
+        table2 = before.table;
+    }
+    tally.events++;
+    tally.outcomes[record.empty() ? 0 : std::min<int>(record[0], 16)][std::min<uint64_t>(model.outcome, 15)]++;
+    const char *what = library.outcome != model.outcome ? "outcome" : library.count != model.messages.size() ? "count"
+        : s.table != table2 ? "table" : s.tray != tray2 ? "tray" : s.providers != before.providers ? "providers written to"
+        : s.books != before.books ? "books written to" : nullptr;
+    if (model.outcome == DONE && !sound(*table)) what = "the model leaves an unsound table", tally.unsoundAfter++;
+    if (!what) return true;
+    report(what, before, record);
+    if (tally.differ == 1) {
+        printSide("model", model.outcome, model.messages.size(), table2, tray2);
+        printSide("library", library.outcome, library.count, s.table, s.tray);
+    }
+    return false;
+}
+
+bool compareStep(Slices &s, const Bytes &record, std::optional<Table> &table, const std::optional<Books> &books) {
+    Result model;
+    lupinenblatt_answer library;
+    return compareStep(s, record, table, books, model, library);
+}
+
+Slices slicesOf(Dice &d, const Situation &s) {
+    Slices out;
+    packTable(s.table, out.table);
+    out.providers = packProviders(s.books);
+    out.books = packBooks(s.books);
+    out.R = s.R;
+    out.shortCall = s.R == 0 && d.chance(50);
+    out.tray.resize(PLACES * MESSAGE + (d.chance(25) ? d.below(60) : 0));
+    for (uint8_t &byte : out.tray) byte = uint8_t(d.next());
+    return out;
+}
+
+// An event on damaged copies of the slices; some damage leaves them sound, and then the event counts as any other.
+bool compareDamaged(Dice &d, const Slices &sane, const Situation &now, const Event &e) {
+    Slices s = sane;
+    s.shortCall = false;
+    Bytes record = packEvent(e);
+    uint64_t way = d.below(100);
+    if (way < 55) s.table = damagedTable(d, now.table);
+    else if (way < 78) s.books = damagedBooks(d, now.books);
+    else if (way < 86) s.providers = damagedProviders(d, now.books);
+    else if (way < 93) s.tray.resize(d.pick(std::vector<size_t>{0, 1, 24, 63 * 24, 63 * 24 + 23, 64 * 24, 64 * 24 + 1, 100 * 24}));
+    else s.R = d.chance(60) ? d.between(7, 9) : d.chance(50) ? d.next() : uint64_t(1) << d.between(3, 63);
+    if (d.chance(10)) record = damagedRecord(d, e);
+    std::optional<Table> table = unpackTable(s.table.data(), s.table.size());
+    std::optional<Books> books = unpackBooks(s.providers.data(), s.providers.size(), s.books.data(), s.books.size());
+    return compareStep(s, record, table, books);
+}
+
+// ---- Records ----
+
+bool recordsAgree(const Bytes &bytes, const Fields &f, size_t places, size_t length) {
+    std::vector<uint64_t> fields(std::max<size_t>(places, 1), 0x5a5a), fields2 = fields;
+    uint8_t nothing = 0;
+    uint8_t said = lupinenblatt_record_read(bytes.empty() ? &nothing : bytes.data(), bytes.size(), fields.data(), places);
+    std::optional<Fields> read = readRecord(bytes.data(), bytes.size());
+    if (places != 10) read = std::nullopt;
+    if (read) std::copy(read->begin(), read->end(), fields2.begin());
+    if (said != (read ? DONE : MALFORMED) || fields != fields2) return false;
+    Bytes out(std::max<size_t>(length, 1), 0xa5), out2 = out;
+    said = lupinenblatt_record_write(f[0], f[1], f[2], f[3], f[4], f[5], f[6], f[7], f[8], f[9], out.data(), length);
+    std::optional<Bytes> written = writeRecord(f, length);
+    if (written) out2 = *written;
+    return said == (written ? DONE : MALFORMED) && out == out2;
+}
+
+void compareRecords(Dice &d, const Event &e) {
+    tally.records++;
+    Fields f = fieldsOf(e);
+    if (d.chance(50)) {  // one field too wide or otherwise odd
+        size_t i = d.below(10);
+        f[i] = d.chance(40) ? f[i] + (uint64_t(1) << WIDTHS[i]) : d.chance(50) ? uint64_t(1) << d.below(64) : d.below(101);
+    }
+    Bytes bytes = d.chance(50) ? packEvent(e) : damagedRecord(d, e);
+    size_t places = d.chance(90) ? 10 : d.below(13), length = d.chance(85) ? 24 : d.below(50);
+    if (recordsAgree(bytes, f, places, length)) return;
+    tally.differ++;
+    std::printf("DIFFERENCE %llu: record %s read to %zu places, or fields", (unsigned long long)tally.differ,
+                hexOf(bytes.data(), bytes.size()).c_str(), places);
+    for (uint64_t field : f) std::printf(" %llu", (unsigned long long)field);
+    std::printf(" written to %zu bytes; replay: tests/compare 1 %llu %llu\n", length, (unsigned long long)tally.seed,
+                (unsigned long long)tally.sequence);
+}
+
+// ---- Sequences ----
+
+size_t anyFreeRows(Dice &d) {
+    uint64_t way = d.below(100);
+    return way < 8 ? 0 : way < 16 ? 1 : way < 97 ? d.between(2, 25) : way < 99 ? 256 : 4096;
+}
+
+void runSequence(Dice &d) {
+    Situation s = makeSituation(d, anyFreeRows(d));
+    Slices slices = slicesOf(d, s);
+    std::optional<Table> table = s.table;
+    std::optional<Books> books = s.books;
+    size_t length = s.table.used.size() + s.table.freeRows > 1000 ? 12 : d.between(20, 140);
+    for (size_t i = 0; i < length; i++) {
+        Event e = nextEvent(d, s, 75);
+        if (d.chance(9) && !compareDamaged(d, slices, s, sensible(d, s, d.pick(s.tns)))) return;
+        if (d.chance(8)) compareRecords(d, e);
+        Bytes record = d.chance(3) ? damagedRecord(d, e) : packEvent(e);
+        if (!compareStep(slices, record, table, books)) return;
+        s.table = *table;
+    }
+}
+
+// ---- Exchanges (demand 3) ----
+
+// Neighbours that may be exchanged: events that name different numbers, and answers for one version from different Local SMSs.
+bool exchangeable(const Event &a, const Event &b) {
+    if (a.tn != b.tn) return true;
+    bool answers = (a.kind == REPLY || a.kind == SILENCE) && (b.kind == REPLY || b.kind == SILENCE);
+    Provider one = a.kind == REPLY ? a.sender : a.other, two = b.kind == REPLY ? b.sender : b.other;
+    return answers && a.version == b.version && one != two;
+}
+
+// What a run of the library leaves: per event its outcome, per system and number its messages in order, the table.
+struct Trace {
+    std::vector<uint64_t> outcomes;
+    std::map<std::pair<std::pair<Provider, bool>, uint64_t>, std::vector<Bytes>> told;
+    Bytes table;
+};
+
+bool runTrace(const Situation &s, Slices slices, const std::vector<Event> &events, const std::vector<size_t> &order, Trace &trace) {
+    std::optional<Table> table = s.table;
+    std::optional<Books> books = s.books;
+    trace.outcomes.assign(events.size(), 99);
+    for (size_t i : order) {
+        Result model;
+        lupinenblatt_answer library;
+        if (!compareStep(slices, packEvent(events[i]), table, books, model, library)) return false;
+        trace.outcomes[i] = library.outcome;
+        for (uint64_t m = 0; m < library.count; m++) {
+            const uint8_t *at = slices.tray.data() + m * MESSAGE;
+            Message message = unpackMessage(at);
+            trace.told[{{message.provider, message.localSms}, message.tn.digits}].push_back(Bytes(at, at + MESSAGE));
+        }
+    }
+    trace.table = slices.table;
+    return true;
+}
+
+void runExchange(Dice &d) {
+    size_t count = d.between(6, 40);
+    Situation s = makeSituation(d, count + d.below(4));
+    if (s.table.freeRows < count) return;
+    Slices slices = slicesOf(d, s);
+    slices.tray.resize(PLACES * MESSAGE);
+    std::vector<Event> events;
+    Situation now = s;
+    std::optional<Table> table = s.table;
+    std::optional<Books> books = s.books;
+    for (size_t i = 0; i < count; i++) {
+        events.push_back(nextEvent(d, now, 80));
+        step(table, books, s.R, events.back(), PLACES);
+        now.table = *table;
+    }
+    std::vector<size_t> order(count), other;
+    for (size_t i = 0; i < count; i++) order[i] = i;
+    other = order;
+    uint64_t exchanges = 0;
+    for (uint64_t n = d.chance(40) ? 1 : 6 * count; n > 0; n--) {
+        size_t i = d.below(count - 1);
+        if (!exchangeable(events[other[i]], events[other[i + 1]])) continue;
+        std::swap(other[i], other[i + 1]);
+        exchanges++;
+    }
+    tally.exchanged += exchanges;
+    Trace one, two;
+    if (!runTrace(s, slices, events, order, one) || !runTrace(s, slices, events, other, two)) return;
+    const char *what = one.table != two.table ? "exchanged: the final table" : one.outcomes != two.outcomes ? "exchanged: an outcome"
+        : one.told != two.told ? "exchanged: the messages to a system" : nullptr;
+    if (!what) return;
+    report(what, slices, packEvent(events[0]));
+    std::printf("the events and, behind, their places in the other order:\n");
+    for (size_t i = 0; i < count; i++) std::printf("event %s   %zu\n", hexOf(packEvent(events[i]).data(), RECORD).c_str(), other[i] + 1);
+}
+
+// ---- Flows ----
+
+void runFlow(const std::filesystem::path &path) {
+    std::ifstream in(path), expected(std::filesystem::path(path).replace_extension(".exp"));
+    std::string wanted((std::istreambuf_iterator<char>(expected)), std::istreambuf_iterator<char>()), printed;
+    Scenario s = readScenario(in);
+    std::optional<Table> table = s.table;
+    std::optional<Books> books = s.books;
+    Slices slices;
+    packTable(s.table, slices.table);
+    slices.providers = packProviders(s.books);
+    slices.books = packBooks(s.books);
+    slices.R = s.R;
+    slices.tray.resize(s.trayPlaces * MESSAGE);
+    for (size_t i = 0; i < s.records.size(); i++) {
+        Result model;
+        lupinenblatt_answer library;
+        if (!compareStep(slices, s.records[i], table, books, model, library)) return;
+        Messages told;
+        for (uint64_t m = 0; m < library.count; m++) told.push_back(unpackMessage(slices.tray.data() + m * MESSAGE));
+        printed += textOf(i + 1, library.outcome, told);
+    }
+    std::optional<Table> left = unpackTable(slices.table.data(), slices.table.size());
+    printed += left ? textOf(*left) : "no table\n";
+    if (printed == wanted) return;
+    tally.differ++;
+    std::printf("DIFFERENCE %llu: flow %s\n%s", (unsigned long long)tally.differ, path.c_str(), printed.c_str());
+}
+
+void runFlows() {
+    size_t flows = 0;
+    for (const auto &entry : std::filesystem::directory_iterator("tests/vectors"))
+        if (entry.path().extension() == ".scn") runFlow(entry.path()), flows++;
+    std::printf("%zu flows through the library\n", flows);
+}
+
+void printTally() {
+    std::printf("kind/outcome");
+    for (int o = 0; o < 15; o++) std::printf("%9d", o);
+    std::printf("\n");
+    uint64_t sums[16] = {}, all = 0;
+    for (int k = 0; k < 17; k++) {
+        std::printf(k == 0 || k == 16 ? "no kind     " : "%-12d", k);
+        for (int o = 0; o < 15; o++) {
+            sums[o] += tally.outcomes[k][o], all += tally.outcomes[k][o];
+            std::printf("%9llu", (unsigned long long)tally.outcomes[k][o]);
+        }
+        std::printf("\n");
+    }
+    std::printf("all         ");
+    for (int o = 0; o < 15; o++) std::printf("%9llu", (unsigned long long)sums[o]);
+    std::printf("\n%.1f%% done; %llu records compared; %llu neighbours exchanged\n", 100.0 * double(sums[0]) / double(all ? all : 1),
+                (unsigned long long)tally.records, (unsigned long long)tally.exchanged);
+}
+
+}  // namespace
+
+int main(int argc, char **argv) {
+    uint64_t wanted = argc > 1 ? std::strtoull(argv[1], nullptr, 10) : 1000000;
+    tally.seed = argc > 2 ? std::strtoull(argv[2], nullptr, 10) : 1;
+    tally.sequence = argc > 3 ? std::strtoull(argv[3], nullptr, 10) : 1;
+    if (argc <= 3) runFlows();
+    for (; tally.events < wanted && tally.differ < 10; tally.sequence++) {
+        Dice d(tally.seed * 1000003 + tally.sequence * 0x2545f4914f6cdd1d);
+        if (tally.sequence % 5 == 0) runExchange(d);
+        else runSequence(d);
+        if (argc > 3) break;
+    }
+    printTally();
+    std::printf("%llu events compared, %llu differ\n", (unsigned long long)tally.events, (unsigned long long)tally.differ);
+    return tally.differ == 0 ? 0 : 1;
+}

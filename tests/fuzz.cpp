@@ -1,0 +1,248 @@
+// Random and damaged bytes as event, table, books, providers and tray of the library's calls.
+//
+//     fuzz [inputs] [seed] [first input]
+//
+// Each slice lies alone in memory, at any start: guard bytes stand before and behind it, and where it ends or begins a page, the next page
+// may not be touched at all, not even read. A fault is: a byte changed by a refusal, or outside a slice, or of a slice that is only read, or
+// of the tray behind its messages; an outcome above 14; outcome 1 or 2 where the model's checks say otherwise; outcome 0 with an unsound
+// table left or more than 63 messages. What an accepted event should do is asked by compare, not here.
+#include <csignal>
+#include <cstdio>
+#include <cstring>
+#include <sys/mman.h>
+#include <unistd.h>
+
+#include "calls.h"
+#include "generate.hpp"
+#include "scenario.hpp"
+
+using namespace paper;
+
+namespace {
+
+uint64_t seed = 1, input = 1, faults = 0;
+
+constexpr uint8_t GUARD = 0xa5;
+
+// Memory for one slice between two pages that may not be touched.
+class Place {
+    static constexpr size_t ROOM = 352256, EDGE = 256;
+    size_t page = size_t(sysconf(_SC_PAGESIZE)), room = (ROOM + page - 1) / page * page;
+    uint8_t *from;
+    uint8_t *at = nullptr;
+    Bytes before;
+  public:
+    Place() {
+        void *all = mmap(nullptr, room + 2 * page, PROT_NONE, MAP_PRIVATE | MAP_ANONYMOUS, -1, 0);
+        if (all == MAP_FAILED) std::exit(2);
+        from = static_cast<uint8_t *>(all) + page;
+        if (mprotect(from, room, PROT_READ | PROT_WRITE) != 0) std::exit(2);
+        std::memset(from, GUARD, room);
+    }
+    uint8_t *lay(Dice &d, const Bytes &bytes) {
+        before = bytes;
+        size_t slack = room - bytes.size(), middle = EDGE + d.below(64);
+        uint64_t way = d.below(3);
+        at = from + (way == 0 ? 0 : way == 1 ? slack : std::min(middle, slack));
+        std::copy(bytes.begin(), bytes.end(), at);
+        return at;
+    }
+    const Bytes &was() const { return before; }
+    Bytes now() const { return Bytes(at, at + before.size()); }
+    bool same(size_t first) const { return std::memcmp(at + first, before.data() + first, before.size() - first) == 0; }
+    // The guard bytes around the slice, which is then given back.
+    bool guarded() {
+        size_t start = size_t(at - from), end = start + before.size();
+        bool good = true;
+        for (size_t i = start < EDGE ? 0 : start - EDGE; i < start; i++) good = good && from[i] == GUARD;
+        for (size_t i = end; i < std::min(room, end + EDGE); i++) good = good && from[i] == GUARD;
+        std::memset(at, GUARD, before.size());
+        return good;
+    }
+};
+
+void touched(int) {
+    static const char text[] = "FAULT: memory outside a slice was touched\n";
+    if (write(1, text, sizeof text - 1) < 0) _exit(3);
+    char line[64];
+    int length = std::snprintf(line, sizeof line, "replay: tests/fuzz 1 %llu %llu\n", (unsigned long long)seed, (unsigned long long)input);
+    if (write(1, line, size_t(length)) < 0) _exit(3);
+    _exit(1);
+}
+
+std::string shortHex(const Bytes &bytes) {
+    return hexOf(bytes.data(), std::min<size_t>(bytes.size(), 2000)) + (bytes.size() > 2000 ? ".." : "") + " (" + std::to_string(bytes.size()) + " bytes)";
+}
+
+void fault(const char *what) {
+    faults++;
+    std::printf("FAULT %llu: %s; replay: tests/fuzz 1 %llu %llu\n", (unsigned long long)faults, what, (unsigned long long)seed,
+                (unsigned long long)input);
+}
+
+// ---- Inputs ----
+
+Bytes anyBytes(Dice &d, size_t length) {
+    Bytes out(length);
+    for (uint8_t &byte : out) byte = uint8_t(d.next());
+    return out;
+}
+
+// A few bits or bytes of it changed, a piece moved or repeated, an end cut off or added.
+void stir(Dice &d, Bytes &bytes) {
+    for (uint64_t n = d.between(1, 3); n > 0 && !bytes.empty(); n--) {
+        size_t i = d.below(bytes.size()), j = d.below(bytes.size()), length = std::min(d.between(1, 90), bytes.size() - std::max(i, j));
+        switch (d.below(8)) {
+        case 0: case 1: case 2: bytes[i] ^= uint8_t(1u << d.below(8)); break;
+        case 3: bytes[i] = uint8_t(d.next()); break;
+        case 4: std::memmove(bytes.data() + i, bytes.data() + j, length); break;
+        case 5: std::memset(bytes.data() + i, d.chance(60) ? 0 : 255, length); break;
+        case 6: bytes.resize(d.chance(50) ? i : bytes.size() - std::min<size_t>(bytes.size(), 1)); break;
+        default: bytes.resize(bytes.size() + d.between(1, 90), uint8_t(d.chance(70) ? 0 : d.next()));
+        }
+    }
+}
+
+struct Input {
+    Bytes table, providers, books, event, tray;
+    uint64_t R = 0;
+};
+
+// Wholly random slices, now and then with the right length.
+void wild(Dice &d, Input &in) {
+    uint64_t which = d.below(5);
+    if (which == 0) in.table = anyBytes(d, d.chance(70) ? ROW * d.below(9) : d.below(700));
+    if (which == 1) in.books = anyBytes(d, d.chance(70) ? BOOKS : d.below(9000));
+    if (which == 2) in.providers = d.chance(50) ? anyBytes(d, d.below(70)) : Bytes(d.below(70), uint8_t(d.below(5)));
+    if (which == 3) in.event = anyBytes(d, d.chance(80) ? RECORD : d.below(60));
+    if (which == 4) in.table.assign(ROW * (d.chance(50) ? 4097 : 4096) - (d.chance(20) ? 1 : 0), 0);
+}
+
+Input makeInput(Dice &d, const Situation &s) {
+    Input in;
+    Event e = nextEvent(d, s, 85);
+    packTable(s.table, in.table);
+    in.providers = packProviders(s.books);
+    in.books = packBooks(s.books);
+    in.event = d.chance(90) ? packEvent(e) : damagedRecord(d, e);
+    in.tray = anyBytes(d, PLACES * MESSAGE + (d.chance(20) ? d.below(80) : 0));
+    in.R = s.R;
+    uint64_t way = d.below(100);
+    if (way < 8) in.table = damagedTable(d, s.table);
+    else if (way < 14) in.books = damagedBooks(d, s.books);
+    else if (way < 18) in.providers = damagedProviders(d, s.books);
+    else if (way < 28) stir(d, in.table);
+    else if (way < 34) stir(d, in.books);
+    else if (way < 38) stir(d, in.providers);
+    else if (way < 48) stir(d, in.event);
+    else if (way < 52) in.tray.resize(d.below(1700));
+    else if (way < 55) in.R = d.chance(50) ? d.below(12) : d.next();
+    else if (way < 62) wild(d, in);
+    return in;
+}
+
+// ---- Checks ----
+
+struct Places { Place table, providers, books, event, tray; };
+
+void checkStep(Dice &d, Places &p, const Input &in, uint64_t outcomes[16]) {
+    uint8_t *table = p.table.lay(d, in.table), *providers = p.providers.lay(d, in.providers), *books = p.books.lay(d, in.books);
+    uint8_t *event = p.event.lay(d, in.event), *tray = p.tray.lay(d, in.tray);
+    lupinenblatt_answer a = in.R == 0 && d.chance(50)
+        ? lupinenblatt_step_default(table, in.table.size(), providers, in.providers.size(), books, in.books.size(), event, in.event.size(), tray,
+                                    in.tray.size())
+        : lupinenblatt_step(table, in.table.size(), providers, in.providers.size(), books, in.books.size(), in.R, event, in.event.size(), tray,
+                            in.tray.size());
+    outcomes[std::min<uint64_t>(a.outcome, 15)]++;
+    const char *what = nullptr;
+    if (a.outcome > 14) what = "an outcome above 14";
+    else if (a.outcome != 0 && a.count != 0) what = "a refusal with messages";
+    else if (a.outcome != 0 && !p.table.same(0)) what = "a refusal changed the table";
+    else if (a.outcome != 0 && !p.tray.same(0)) what = "a refusal changed the tray";
+    else if (!p.providers.same(0) || !p.books.same(0) || !p.event.same(0)) what = "a slice that is only read was changed";
+    else if (a.count > 63) what = "more than 63 messages";
+    else if (a.outcome == 0 && !p.tray.same(a.count * MESSAGE)) what = "the tray was changed behind its messages";
+    std::optional<Table> before = unpackTable(in.table.data(), in.table.size());
+    std::optional<Books> b = unpackBooks(in.providers.data(), in.providers.size(), in.books.data(), in.books.size());
+    bool good = before && sound(*before) && b && sound(*b) && in.R <= 7 && in.tray.size() / MESSAGE >= PLACES;
+    bool formed = readRecord(in.event.data(), in.event.size()).has_value();
+    if (good != (a.outcome != 1)) what = good ? "outcome 1 though everything is sound" : "not outcome 1 though something is unsound";
+    else if (good && formed != (a.outcome != 2)) what = formed ? "outcome 2 for a well-formed record" : "not outcome 2 for a malformed record";
+    if (a.outcome == 0) {
+        Bytes after = p.table.now();
+        std::optional<Table> t = unpackTable(after.data(), after.size());
+        if (!t || !sound(*t)) what = "outcome 0 left an unsound table";
+    }
+    bool guarded = p.table.guarded();
+    guarded = p.providers.guarded() && guarded;
+    guarded = p.books.guarded() && guarded;
+    guarded = p.event.guarded() && guarded;
+    guarded = p.tray.guarded() && guarded;
+    if (!guarded) what = "a byte outside a slice was changed";
+    if (!what) return;
+    fault(what);
+    if (faults > 1) return;
+    std::printf("outcome %llu, %llu messages, R %llu\nevent %s\ntable %s\nproviders %s\nbooks %s\ntray %s\n", (unsigned long long)a.outcome,
+                (unsigned long long)a.count, (unsigned long long)in.R, shortHex(in.event).c_str(), shortHex(in.table).c_str(),
+                shortHex(in.providers).c_str(), shortHex(in.books).c_str(), shortHex(in.tray).c_str());
+}
+
+// The record's two calls: 0 or 2, nothing written with 2, nothing outside. A guard number stands before and behind the fields.
+void checkRecord(Dice &d, Places &p, const Input &in) {
+    size_t length = d.chance(70) ? RECORD : d.below(60), places = d.chance(80) ? 10 : d.below(20);
+    uint8_t *event = p.event.lay(d, in.event);
+    const uint64_t blankField = 0x0123456789abcdef;
+    std::vector<uint64_t> fields(places + 2, blankField);
+    uint8_t said = lupinenblatt_record_read(event, in.event.size(), fields.data() + 1, places);
+    bool kept = std::all_of(fields.begin(), fields.end(), [=](uint64_t f) { return f == blankField; });
+    bool formed = readRecord(in.event.data(), in.event.size()).has_value() && places == 10;
+    const char *what = nullptr;
+    if (said != (formed ? 0 : 2)) what = "record_read answers wrongly";
+    else if (said == 2 && !kept) what = "record_read refused and wrote";
+    else if (fields[0] != blankField || fields[places + 1] != blankField) what = "record_read wrote beside the fields";
+    else if (!p.event.same(0)) what = "record_read changed the bytes";
+    if (!p.event.guarded()) what = "record_read wrote outside";
+    Fields f;
+    std::optional<Event> e = unpackEvent(in.event.data(), in.event.size());
+    for (uint64_t &field : f) field = d.next() >> d.below(64);
+    if (e && d.chance(80)) f = fieldsOf(*e);
+    if (d.chance(30)) f[d.below(10)] = d.next() >> d.below(64);
+    Bytes blank(length, 0x3c);
+    uint8_t *out = p.tray.lay(d, blank);
+    said = lupinenblatt_record_write(f[0], f[1], f[2], f[3], f[4], f[5], f[6], f[7], f[8], f[9], out, length);
+    bool writes = writeRecord(f, length).has_value();
+    if (said != (writes ? 0 : 2)) what = "record_write answers wrongly";
+    else if (said == 2 && !p.tray.same(0)) what = "record_write refused and wrote";
+    if (!p.tray.guarded()) what = "record_write wrote outside";
+    if (!what) return;
+    fault(what);
+    std::printf("record %s, %zu places, %zu bytes, fields", shortHex(in.event).c_str(), places, length);
+    for (uint64_t field : f) std::printf(" %llu", (unsigned long long)field);
+    std::printf("\n");
+}
+
+}  // namespace
+
+int main(int argc, char **argv) {
+    uint64_t wanted = argc > 1 ? std::strtoull(argv[1], nullptr, 10) : 400000, outcomes[16] = {}, done = 0;
+    seed = argc > 2 ? std::strtoull(argv[2], nullptr, 10) : 1;
+    input = argc > 3 ? std::strtoull(argv[3], nullptr, 10) : 1;
+    std::signal(SIGSEGV, touched);
+    std::signal(SIGBUS, touched);
+    std::setvbuf(stdout, nullptr, _IOLBF, 0);
+    Places places;
+    for (; done < wanted && faults < 10; input++, done++) {
+        // Every 40 inputs share a situation; it follows from their number alone, as everything else does.
+        Dice common(seed * 7919 + input / 40 * 0x9e3779b97f4a7c15), own(seed * 104729 + input * 0xd1342543de82ef95);
+        static Situation s;
+        static uint64_t made = ~uint64_t(0);
+        if (made != input / 40) made = input / 40, s = makeSituation(common, common.below(12));
+        Input in = makeInput(own, s);
+        if (own.chance(12)) checkRecord(own, places, in);
+        else checkStep(own, places, in, outcomes);
+    }
+    std::printf("outcomes 0 to 14:");
+    for (int i = 0; i < 15; i++) std::printf(" %llu", (unsigned long long)outcomes[i]);
+    std::printf("\n%llu inputs, %llu faults\n", (unsigned long long)done, (unsigned long long)faults);
+    return faults == 0 ? 0 : 1;
+}
