@@ -1,3 +1,4 @@
 pub mod Judging
 pub mod Fits
 pub mod Manages
+pub mod Creating

@@ -4,6 +4,7 @@ use mathlib.Core.Path.{_≡_}
 use Prim.Native.Nat.{ℕ, _<_, _≤_}
 use mathlib.Core.Bool.{Bool, true, cond}
 use mathlib.Core.List.{List}
+use lib.ListN.{length}
 use Rattle.model.specs.Basics.{All, first, isNone}
 use Rattle.model.specs.Table.{changes, rowsOf, others}
 use Rattle.model.specs.Sound.{live, worked}
@@ -14,6 +15,8 @@ use Rattle.model.specs.Selection.{selectedFor}
 use Rattle.model.specs.Broadcast.{opened, broadcasts}
 use Rattle.model.specs.Answers.{answering, heard}
 use Rattle.model.specs.Step.{manages}
+use Rattle.model.specs.Creates.{creates}
+use Rattle.table.specs.declared.survey.Facts.{Facts}
 use Rattle.books.specs.Packed.{decodeBooks, soundBytes}
 use Rattle.rules.specs.Bounds.{Waits}
 use Rattle.model.specs.declared.Marks.{Marks}
@@ -21,7 +24,7 @@ use Rattle.model.proofs.SoundRows.{Row}
 use Rattle.model.proofs.SoundLaws.{Brings}
 use Rattle.table.specs.Table.{decode, encode}
 use Rattle.table.specs.Sound.{rowsIn, itself}
-use Rattle.table.specs.Survey.{Found, versionAt}
+use Rattle.table.specs.Survey.{Found, Surveyed, theOne, versionAt}
 use Rattle.table.specs.declared.survey.Seen.{Seen}
 use Rattle.table.specs.declared.survey.Seen.the-variants.{Nobody, One}
 use Rattle.telling.specs.Telling.{Told, Tellable}
@@ -86,3 +89,11 @@ pub record Manageable (m : Marks) (b : List ℕ) (t : List Version) (n i : ℕ) 
   pub rows : All (Brings Row) (manages (decodeBooks m b) e v (othersOf (v .id) t) .does)
   pub told : isBroadcast (e .kind) ≡ true → Tellable (opened (selectedFor (decodeBooks m b) (v .id .tn .0)) e v)
   pub few : isBroadcast (e .kind) ≡ true → opened (selectedFor (decodeBooks m b) (v .id .tn .0)) e v .cast .purpose ≤ 3
+
+-- a create that nothing refuses, over the survey f of its number
+pub record Creatable (t : List Version) (n cap : ℕ) (e : Event) (f : Facts) : Type 0 where
+  pub survey : Surveyed t (nameIn e) f
+  pub count : length t ≡ n
+  pub rows : All (Brings Row) (creates e (rowsOf itself (e .tn .0) t) .does)
+  pub free : isNone (theOne (f .worked)) ≡ true → n < cap
+  pub newest : isNone (theOne (f .worked)) ≡ true → f .all .newest < 65535

@@ -3,12 +3,15 @@ use crate::judge;
 use model::Event;
 use model::Marks;
 use model::Version;
+use table::survey::Facts;
 use table::survey::Seen;
 ghost use mathlib.Core.Path.{_≡_};
 ghost use mathlib.Core.List.{[], _∷_, _++_};
 ghost use Prim.Native.Nat.{_≤_, _<_};
 ghost use Rattle.model.specs.Basics.{among};
-ghost use Rattle.model.specs.Table.{put, add, change, changes};
+ghost use Rattle.model.specs.Table.{put, add, change, changes, rowsOf};
+ghost use Rattle.model.specs.Creates.{creates};
+ghost use Rattle.table.specs.Sound.{itself};
 ghost use Rattle.model.specs.Given.{accept};
 ghost use Rattle.model.specs.Tray.{restatedTold, windowTold, downloads, createdTold};
 ghost use Rattle.model.specs.Changes.{turns, windowRuns};
@@ -22,7 +25,7 @@ ghost use Rattle.table.specs.Change.{Fresh};
 ghost use Rattle.books.specs.Packed.{decodeBooks};
 ghost use Rattle.telling.specs.Telling.{Tellable};
 ghost use Rattle.tray.specs.Tray.{placesIn};
-ghost use Rattle.engine.specs.Act.{Acted, Fit, Settling, othersOf, replacedBy, Answerable, Standing, Broadcastable, Manageable};
+ghost use Rattle.engine.specs.Act.{Acted, Fit, Settling, othersOf, replacedBy, Answerable, Standing, Broadcastable, Manageable, Creatable};
 
 // w in its row, and its status told.
 pub fn put_turned(table: &mut [u8], n: usize, i: usize, w: Version, tray: &mut [u8]) -> usize
@@ -223,4 +226,24 @@ pub fn manage(
     }
     table::change::strike_at(table, n, i);
     0
+}
+
+// A create: a fresh version, or a concurrence with the worked one.
+pub fn created(table: &mut [u8], n: usize, e: Event, f: Facts, tray: &mut [u8]) -> usize
+    requires { ⌜ SoundTable (now table) n ⌝ }
+    requires { ⌜ Creatable (decode (now table)) n (rowsIn (now table)) e f × (64 ≤ placesIn (now tray)) ⌝ }
+    ensures { λ r. ⌜ Acted (creates e (rowsOf itself (e .tn .0) (decode (now (table .entry))))) (now (table .entry)) (now (tray .entry)) (now (table .exit)) (now (tray .exit)) r ⌝ }
+{
+    let all = f.all;
+    let worked = f.worked;
+    match worked {
+        Seen::One(i, v) => {
+            let w = rules::sides::concurred(e, v);
+            put_restated(table, n, i, v, w, tray)
+        }
+        Seen::Nobody => {
+            let w = rules::sides::fresh(e, all.newest + 1);
+            add_fresh(table, n, w, tray)
+        }
+    }
 }
