@@ -2,3 +2,4 @@ pub mod Judging
 pub mod Fits
 pub mod Manages
 pub mod Creating
+pub mod Deciding

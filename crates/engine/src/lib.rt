@@ -1,3 +1,4 @@
 // One step: check, read, decide, write.
 pub mod act;
+pub mod event;
 pub mod judge;

@@ -1,0 +1,42 @@
+-- One event on a sound table: what it is given, and what it leaves.
+-- Assumes nothing.
+use mathlib.Core.Path.{_≡_}
+use Prim.Native.Nat.{ℕ, _≤_}
+use mathlib.Core.Bool.{true, cond}
+use mathlib.Core.List.{List}
+use lib.Dec.{ltb}
+use lib.ListN.{length}
+use Rattle.model.specs.Table.{changes, rowsOf}
+use Rattle.model.specs.Record.{wellFormed}
+use Rattle.model.specs.Outcomes.{isDone, numberOf}
+use Rattle.model.specs.Given.{Given, Result}
+use Rattle.books.specs.Packed.{decodeBooks, soundBytes}
+use Rattle.table.specs.Table.{decode, encode}
+use Rattle.table.specs.Sound.{rowsIn, itself}
+use Rattle.tray.specs.Tray.{putAll}
+use Rattle.engine.specs.declared.event.Answer.{Answer}
+use Rattle.model.specs.declared.Event.{Event}
+use Rattle.model.specs.declared.Marks.{Marks}
+
+-- what the rules see of the bytes
+abbrev pub givenTo : Marks → List ℕ → ℕ → List ℕ → Event → Given
+givenTo m b most t e = record {
+  books = decodeBooks m b;
+  most = most;
+  free = ltb (length (decode t)) (rowsIn t);
+  event = e;
+  rows = rowsOf itself (e .tn .0) (decode t);
+}
+
+-- the books are sound, the event well formed, and the tray has its places
+pub record Ready (m : Marks) (b : List ℕ) (e : Event) (k : ℕ) : Type 0 where
+  pub sound : soundBytes m b ≡ true
+  pub formed : wellFormed e ≡ true
+  pub places : 64 ≤ k
+
+-- the outcome's number, the count, the table and the tray are those of the result
+pub record Did (x : Result) (t y after trayAfter : List ℕ) (a : Answer) : Type 0 where
+  pub outcome : a .outcome ≡ numberOf (x .out)
+  pub count : a .count ≡ length (x .sent)
+  pub table : after ≡ cond (isDone (x .out)) (encode (changes (x .does) (decode t)) (rowsIn t)) t
+  pub tray : trayAfter ≡ putAll y 0 (x .sent)

@@ -1,0 +1,53 @@
+// One event on a sound table: judged, and where nothing refuses it, done.
+use crate::act;
+use crate::judge;
+use model::Event;
+use model::Marks;
+use table::survey::Facts;
+ghost use mathlib.Core.Path.{_≡_};
+ghost use mathlib.Core.Bool.{true};
+ghost use Prim.Native.Nat.{ℕ};
+ghost use Rattle.model.specs.Record.{isCreate};
+ghost use Rattle.model.specs.Given.{nameIn};
+ghost use Rattle.model.specs.Step.{rule};
+ghost use Rattle.table.specs.Table.{decode};
+ghost use Rattle.table.specs.Sound.{SoundTable};
+ghost use Rattle.table.specs.Survey.{Surveyed};
+ghost use Rattle.tray.specs.Tray.{placesIn};
+ghost use Rattle.engine.specs.Event.{Ready, Did, givenTo};
+
+// The paper's number of the outcome, and how many messages stand in the tray.
+#[repr(C)]
+pub struct Answer {
+    pub outcome: u64,
+    pub count: u64,
+}
+
+// Kinds 1 and 2.
+fn on_create(
+    marks: Marks,
+    books: &[u8],
+    table: &mut [u8],
+    n: usize,
+    e: Event,
+    f: Facts,
+    tray: &mut [u8],
+) -> Answer
+    requires { ⌜ SoundTable (now table) n ⌝ }
+    requires { ⌜ Ready marks (now books) e (placesIn (now tray)) × Surveyed (decode (now table)) (nameIn e) f × (isCreate (e .kind) ≡ true) ⌝ }
+    ensures { λ r. ⌜ ((most : ℕ) → Did (rule (givenTo marks (now (books .entry)) most (now (table .entry)) e)) (now (table .entry)) (now (tray .entry)) (now (table .exit)) (now (tray .exit)) r) ⌝ }
+{
+    let gone = judge::absent(marks, e);
+    let owner = books::owner(books, e.tn.0 / 10000);
+    let free = n < table.len() / 80;
+    let o = judge::create(e, gone, owner, f, free);
+    let outcome = judge::number(o);
+    if outcome != 0 {
+        return Answer { outcome, count: 0 };
+    }
+    let count = act::created(table, n, e, f, tray);
+    Answer {
+        outcome: 0,
+        count: count as u64,
+    }
+}
