@@ -77,7 +77,7 @@ module _ (m : Marks) (b : List ℕ) (most : ℕ) (t : List ℕ) (n : ℕ) (e : E
   abbrev G : Given
   G = givenTo m b most t e
 
-  ground : Ground itself (e .tn .0) (G .rows)
+  pub ground : Ground itself (e .tn .0) (G .rows)
   ground =
       let s = table-says itself (rowsIn t) (decode t) (st .sound) in
       record { own = rows-rows itself (e .tn .0) (decode t); rising = rising-part _ (decode t) (s .sound .rising); rows = all-keep _ (s .sound .rows); line = s .sound .lines (e .tn .0) }

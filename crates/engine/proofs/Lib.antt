@@ -3,3 +3,5 @@ pub mod Fits
 pub mod Manages
 pub mod Creating
 pub mod Deciding
+pub mod Answering
+pub mod Others

@@ -4,10 +4,12 @@ use crate::judge;
 use model::Event;
 use model::Marks;
 use table::survey::Facts;
+use table::survey::Seen;
 ghost use mathlib.Core.Path.{_≡_};
-ghost use mathlib.Core.Bool.{true};
-ghost use Prim.Native.Nat.{ℕ};
-ghost use Rattle.model.specs.Record.{isCreate};
+ghost use mathlib.Core.Bool.{true, false};
+ghost use Prim.Native.Nat.{ℕ, _≤_};
+ghost use mathlib.Core.List.{List};
+ghost use Rattle.model.specs.Record.{isCreate, isAnswer, wellFormed};
 ghost use Rattle.model.specs.Given.{nameIn};
 ghost use Rattle.model.specs.Step.{rule};
 ghost use Rattle.table.specs.Table.{decode};
@@ -49,5 +51,83 @@ fn on_create(
     Answer {
         outcome: 0,
         count: count as u64,
+    }
+}
+
+// Kinds 11 and 12.
+fn on_answer(
+    marks: Marks,
+    most: u8,
+    table: &mut [u8],
+    n: usize,
+    e: Event,
+    f: Facts,
+    tray: &mut [u8],
+) -> Answer
+    requires { ⌜ SoundTable (now table) n ⌝ }
+    requires { ⌜ (wellFormed e ≡ true) × (64 ≤ placesIn (now tray)) × (most ≤ 7) × Surveyed (decode (now table)) (nameIn e) f × (isAnswer (e .kind) ≡ true) ⌝ }
+    ensures { λ r. ⌜ ((b : List ℕ) → Did (rule (givenTo marks b most (now (table .entry)) e)) (now (table .entry)) (now (tray .entry)) (now (table .exit)) (now (tray .exit)) r) ⌝ }
+{
+    let gone = judge::absent(marks, e);
+    let asked = f.asked;
+    let rest = f.rest;
+    let lives = rest.live;
+    match asked {
+        Seen::One(i, v) => {
+            let o = judge::answer(e, gone, v);
+            let outcome = judge::number(o);
+            if outcome != 0 {
+                return Answer { outcome, count: 0 };
+            }
+            let count = act::put_answered(most, table, n, i, e, v, lives, tray);
+            Answer {
+                outcome: 0,
+                count: count as u64,
+            }
+        }
+        Seen::Nobody => {
+            let o = judge::unknown(gone);
+            let outcome = judge::number(o);
+            Answer { outcome, count: 0 }
+        }
+    }
+}
+
+// All other kinds.
+fn on_other(
+    marks: Marks,
+    books: &[u8],
+    table: &mut [u8],
+    n: usize,
+    e: Event,
+    f: Facts,
+    tray: &mut [u8],
+) -> Answer
+    requires { ⌜ SoundTable (now table) n ⌝ }
+    requires { ⌜ Ready marks (now books) e (placesIn (now tray)) × Surveyed (decode (now table)) (nameIn e) f × (isCreate (e .kind) ≡ false) × (isAnswer (e .kind) ≡ false) ⌝ }
+    ensures { λ r. ⌜ ((most : ℕ) → Did (rule (givenTo marks (now (books .entry)) most (now (table .entry)) e)) (now (table .entry)) (now (tray .entry)) (now (table .exit)) (now (tray .exit)) r) ⌝ }
+{
+    let gone = judge::absent(marks, e);
+    let asked = f.asked;
+    let rest = f.rest;
+    let lives = rest.live;
+    match asked {
+        Seen::One(i, v) => {
+            let o = judge::other(e, gone, f, v);
+            let outcome = judge::number(o);
+            if outcome != 0 {
+                return Answer { outcome, count: 0 };
+            }
+            let count = act::manage(marks, books, table, n, i, e, v, lives, tray);
+            Answer {
+                outcome: 0,
+                count: count as u64,
+            }
+        }
+        Seen::Nobody => {
+            let o = judge::unknown(gone);
+            let outcome = judge::number(o);
+            Answer { outcome, count: 0 }
+        }
     }
 }
