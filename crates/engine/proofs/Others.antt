@@ -7,7 +7,7 @@ use mathlib.Core.Bool.{Bool, true, false, cond, _&&_, _||_}
 use mathlib.Core.List.{List, [], _∷_}
 use lib.Dec.{eqb, ltb, leb}
 use lib.ListN.{getD}
-use borrow.Author.Tests.{eqb-true, ltb-true, leb-true, le-leb}
+use borrow.Author.Tests.{eqb-true, eqb-false, ltb-true, leb-true, le-leb}
 use Rattle.model.specs.Basics.{All, among}
 use Rattle.model.specs.Numbers.{tenDigits}
 use Rattle.model.specs.Books.{Books}
@@ -93,14 +93,21 @@ grid-formed e h c a =
 
 -- ---- a broadcast's version can be told
 
-lrn-small : (e : Event) → wellFormed e ≡ true → e .lrn .0 < 2 ^ 34
-unfolding wellFormed fitsBits
-lrn-small e h =
-    let all : List Bool = fitsBits e ∷ tenDigits (e .tn .0) ∷ named (e .time) ∷ kindFits e ∷ [] in
-    let bits : List Bool = ltb (e .kind) (2 ^ 8) ∷ ltb (e .sender) (2 ^ 6) ∷ ltb (e .other) (2 ^ 6) ∷ ltb (e .mark) (2 ^ 2) ∷ ltb (e .cause) (2 ^ 8)
-    ∷ ltb (e .tn .0) (2 ^ 34) ∷ ltb (e .lrn .0) (2 ^ 34) ∷ ltb (e .version) (2 ^ 16) ∷ ltb (e .time) (2 ^ 32) ∷ ltb (e .due) (2 ^ 32) ∷ [] in
-    let of : (i : ℕ) → getD all i true ≡ true = conj-at all h in
-    ltb-true (e .lrn .0) (2 ^ 34) (conj-at bits (of 0) 6)
+-- both numbers fit their 34 bits
+module _ (e : Event) (h : wellFormed e ≡ true) where
+  bit : (i : ℕ) → getD (ltb (e .kind) (2 ^ 8) ∷ ltb (e .sender) (2 ^ 6) ∷ ltb (e .other) (2 ^ 6) ∷ ltb (e .mark) (2 ^ 2) ∷ ltb (e .cause) (2 ^ 8)
+      ∷ ltb (e .tn .0) (2 ^ 34) ∷ ltb (e .lrn .0) (2 ^ 34) ∷ ltb (e .version) (2 ^ 16) ∷ ltb (e .time) (2 ^ 32) ∷ ltb (e .due) (2 ^ 32) ∷ []) i true ≡ true
+  unfolding wellFormed fitsBits
+  bit =
+      conj-at
+      (ltb (e .kind) (2 ^ 8) ∷ ltb (e .sender) (2 ^ 6) ∷ ltb (e .other) (2 ^ 6) ∷ ltb (e .mark) (2 ^ 2) ∷ ltb (e .cause) (2 ^ 8) ∷ ltb (e .tn .0) (2 ^ 34) ∷ ltb (e .lrn .0) (2 ^ 34)
+      ∷ ltb (e .version) (2 ^ 16) ∷ ltb (e .time) (2 ^ 32) ∷ ltb (e .due) (2 ^ 32) ∷ []) (conj-at (fitsBits e ∷ tenDigits (e .tn .0) ∷ named (e .time) ∷ kindFits e ∷ []) h 0)
+
+  pub tn-small : e .tn .0 < 2 ^ 34
+  tn-small = ltb-true (e .tn .0) (2 ^ 34) (bit 5)
+
+  pub lrn-small : e .lrn .0 < 2 ^ 34
+  lrn-small = ltb-true (e .lrn .0) (2 ^ 34) (bit 6)
 
 pub opened-tellable : (s : ℕ) (e : Event) (v : Version) → wellFormed e ≡ true → Row v → Tellable (opened s e v)
 unfolding opened
@@ -172,3 +179,37 @@ module _ (m : Marks) (b : List ℕ) (most : ℕ) (t : List ℕ) (n : ℕ) (e : E
         told = λ _. opened-tellable (selectedFor (decodeBooks m b) (v .id .tn .0)) e v h r;
         few = λ _. opened-purpose (selectedFor (decodeBooks m b) (v .id .tn .0)) e v r;
       }
+
+-- ---- the ranges of kinds
+
+pub create-range : (k : ℕ) → 1 ≤ k → k ≤ 2 → isCreate k ≡ true
+create-range k l m = go (eqb k 1) refl (eqb k 2) refl
+  where
+    go : (a : Bool) → eqb k 1 ≡ a → (b : Bool) → eqb k 2 ≡ b → isCreate k ≡ true
+    go true p b q = rw p
+    go false p true q = rw (p, q)
+    go false p false q = absurd (let x : k ≡ 1 → ⊥ = eqb-false k 1 p in let y : k ≡ 2 → ⊥ = eqb-false k 2 q in omega arith)
+
+pub answer-range : (k : ℕ) → 11 ≤ k → k ≤ 12 → isAnswer k ≡ true
+answer-range k l m = go (eqb k 11) refl (eqb k 12) refl
+  where
+    go : (a : Bool) → eqb k 11 ≡ a → (b : Bool) → eqb k 12 ≡ b → isAnswer k ≡ true
+    go true p b q = rw p
+    go false p true q = rw (p, q)
+    go false p false q = absurd (let x : k ≡ 11 → ⊥ = eqb-false k 11 p in let y : k ≡ 12 → ⊥ = eqb-false k 12 q in omega arith)
+
+pub no-create : (k : ℕ) → (1 ≤ k → k ≤ 2 → ⊥) → isCreate k ≡ false
+no-create k h = go (eqb k 1) refl (eqb k 2) refl
+  where
+    go : (a : Bool) → eqb k 1 ≡ a → (b : Bool) → eqb k 2 ≡ b → isCreate k ≡ false
+    go true p b q = let e : k ≡ 1 = eqb-true k 1 p in absurd (h (omega arith) (omega arith))
+    go false p true q = let e : k ≡ 2 = eqb-true k 2 q in absurd (h (omega arith) (omega arith))
+    go false p false q = rw (p, q)
+
+pub no-answer : (k : ℕ) → (11 ≤ k → k ≤ 12 → ⊥) → isAnswer k ≡ false
+no-answer k h = go (eqb k 11) refl (eqb k 12) refl
+  where
+    go : (a : Bool) → eqb k 11 ≡ a → (b : Bool) → eqb k 12 ≡ b → isAnswer k ≡ false
+    go true p b q = let e : k ≡ 11 = eqb-true k 11 p in absurd (h (omega arith) (omega arith))
+    go false p true q = let e : k ≡ 12 = eqb-true k 12 q in absurd (h (omega arith) (omega arith))
+    go false p false q = rw (p, q)

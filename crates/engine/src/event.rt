@@ -2,6 +2,7 @@
 use crate::act;
 use crate::judge;
 use model::Event;
+use model::Id;
 use model::Marks;
 use table::survey::Facts;
 use table::survey::Seen;
@@ -129,5 +130,33 @@ fn on_other(
             let outcome = judge::number(o);
             Answer { outcome, count: 0 }
         }
+    }
+}
+
+// A well-formed event on a sound table.
+pub fn on_event(
+    marks: Marks,
+    books: &[u8],
+    most: u8,
+    table: &mut [u8],
+    n: usize,
+    e: Event,
+    tray: &mut [u8],
+) -> Answer
+    requires { ⌜ SoundTable (now table) n ⌝ }
+    requires { ⌜ Ready marks (now books) e (placesIn (now tray)) × (most ≤ 7) ⌝ }
+    ensures { λ r. ⌜ Did (rule (givenTo marks (now (books .entry)) most (now (table .entry)) e)) (now (table .entry)) (now (tray .entry)) (now (table .exit)) (now (tray .exit)) r ⌝ }
+{
+    let tn = e.tn;
+    let k = Id {
+        tn,
+        number: e.version,
+    };
+    let f = table::survey::number(table, n, k);
+    let kind = e.kind;
+    match kind {
+        1..=2 => on_create(marks, books, table, n, e, f, tray),
+        11..=12 => on_answer(marks, most, table, n, e, f, tray),
+        _ => on_other(marks, books, table, n, e, f, tray),
     }
 }
