@@ -5,3 +5,4 @@ pub mod Creating
 pub mod Deciding
 pub mod Answering
 pub mod Others
+pub mod Stepping

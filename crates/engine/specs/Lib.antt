@@ -1,3 +1,4 @@
 pub mod Judged
 pub mod Act
 pub mod Event
+pub mod Step

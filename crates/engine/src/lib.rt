@@ -2,3 +2,4 @@
 pub mod act;
 pub mod event;
 pub mod judge;
+pub mod step;

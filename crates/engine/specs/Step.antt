@@ -1,0 +1,34 @@
+-- One step over bytes: what the call answers, whatever the bytes are. [O1, O2, O9]
+-- Assumes nothing.
+use Prim.Native.Nat.{ℕ}
+use mathlib.Core.Bool.{Bool, true, false, cond, _&&_}
+use mathlib.Core.List.{List, map}
+use Rattle.model.specs.Given.{Result, refuse}
+use Rattle.model.specs.Step.{Setting, step}
+use Rattle.record.specs.Layout.{readEvent}
+use Rattle.providers.specs.Providers.{listed, entryOf}
+use Rattle.providers.specs.declared.Listed.{Listed}
+use Rattle.books.specs.Packed.{decodeBooks, soundBytes}
+use Rattle.table.specs.Table.{decode}
+use Rattle.table.specs.Sound.{rowsIn, soundnessOf}
+use Rattle.table.specs.declared.scan.Soundness.{Soundness}
+use Rattle.table.specs.declared.scan.Soundness.the-variants.{Unsound, Sound}
+use Rattle.tray.specs.Tray.{placesIn}
+use Rattle.model.specs.declared.Marks.{Marks}
+use Rattle.model.specs.declared.Outcome.the-variants as outcome
+
+abbrev pub settingOf : Marks → List ℕ → ℕ → List ℕ → List ℕ → Setting
+settingOf m b most t y = record { books = decodeBooks m b; most = most; rows = rowsIn t; places = placesIn y }
+
+abbrev pub isTable : Soundness → Bool
+isTable Unsound = false
+isTable (Sound n) = true
+
+-- the bytes are a provider list, books and a table
+abbrev pub formed : Listed → List ℕ → List ℕ → Bool
+formed l b t = isTable (soundnessOf t) && l .sound && soundBytes (l .marks) b
+
+-- document 01's step of what the bytes say; where they say nothing, outcome 1
+unfoldable pub resultOf : List ℕ → List ℕ → ℕ → List ℕ → List ℕ → List ℕ → Result
+resultOf p b most e t y =
+    cond (formed (listed (map entryOf p)) b t) (step (settingOf (listed (map entryOf p) .marks) b most t y) (readEvent e) (decode t)) (refuse outcome.Unsound)
