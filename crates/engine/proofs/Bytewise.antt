@@ -38,7 +38,7 @@ use Rattle.table.proofs.Meant.{sound-says, says-sound}
 use Rattle.table.proofs.Steps.{says-again, rows-again}
 use Rattle.tray.specs.Tray.{placesIn}
 use Rattle.engine.specs.Event.{tableAfter}
-use Rattle.engine.specs.Step.{settingOf, isTable, resultOf}
+use Rattle.engine.specs.Step.{settingOf, isTable, resultIn, resultOf}
 use Rattle.engine.specs.Demands.{isRecord, fieldsIn, tableBy, tableAtEnd, numbersIn, messagesIn, Lent, SameBytes, Exchanged, ByteDemand3}
 
 -- ---- records
@@ -103,7 +103,7 @@ module _ (p b : List ℕ) (most : ℕ) (y : List ℕ) (rows : ℕ) where
       sound = says-table itself rows vs (sane-of S vs h .table)
 
       pub at : (e : List ℕ) → isRecord (readEvent e) ≡ true → resultOf p b most e (encode vs rows) y ≡ stepOf S (fieldsIn e) vs
-      unfolding resultOf
+      unfolding resultIn
       at e f = rw (says-sound vs rows sound, hl, hb, record-is e f, says-again vs rows sound, rows-again vs rows sound)
 
       pub next : (e : List ℕ) → isRecord (readEvent e) ≡ true → tableBy p b most y e (encode vs rows) ≡ encode (after (stepOf S) (fieldsIn e) vs) rows

@@ -27,7 +27,7 @@ use Rattle.table.specs.Sound.{rowsIn, soundnessOf}
 use Rattle.table.specs.declared.scan.Soundness.the-variants.{Sound}
 use Rattle.table.proofs.Meant.{says-sound}
 use Rattle.engine.specs.Event.{tableAfter}
-use Rattle.engine.specs.Step.{settingOf, formed, resultOf}
+use Rattle.engine.specs.Step.{settingOf, formed, resultIn, resultOf}
 
 -- what holds of the result of a step on t
 record Kept (s : Setting) (t : List Version) (x : Result) : Type 0 where
@@ -52,7 +52,7 @@ module _ (p b : List ℕ) (most : ℕ) (e t y : List ℕ) where
   S = settingOf (listed (map entryOf p) .marks) b most t y
 
   kept : Kept S (decode t) (resultOf p b most e t y)
-  unfolding resultOf
+  unfolding resultIn
   kept = go (formed (listed (map entryOf p)) b t) refl
     where
       go : (f : Bool) → formed (listed (map entryOf p)) b t ≡ f → Kept S (decode t) (resultOf p b most e t y)
