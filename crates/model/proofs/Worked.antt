@@ -8,26 +8,23 @@ use lib.Dec.{eqb}
 use Rattle.systems.specs.Set.{member, maskOf, meet, count as size}
 use Rattle.model.specs.Answers.{again, moved, heard, askedAgain, answers}
 use Rattle.model.specs.Basics.{iff, all, every}
-use Rattle.model.specs.Books.{ownerOf, partnerOf, filters, soundMarks, soundCodes, soundFilters, soundSplits, soundBooks}
+use Rattle.model.specs.Books.{Filter, Split, ownerOf, partnerOf, filters, soundMarks, soundCodes, soundFilters, soundSplits, soundBooks}
 use Rattle.model.specs.Broadcast.{askedFor, opened, broadcasts}
 use Rattle.model.specs.Changes.{newModified, oldModified, cancelled, acknowledged, ownCancel, resolved, windowTurned, windowMarked, windowSpent, windowRuns}
 use Rattle.model.specs.Closing.{closeTo, closed, retired, retires, closingTold, settled, settles, settlingTold}
 use Rattle.model.specs.Creates.{currentFor, freshVersion, fits, concurred, creates}
 use Rattle.model.specs.Record.{kindFits, fitsBits, wellFormed}
 use Rattle.model.specs.Refusals.{early, busyWith, busy, unawaited, notCurrent, unfit, exhausted, full}
-use Rattle.model.specs.Retries.{octal, withOctal, used, withUsed}
+use Rattle.model.specs.Retries.{noRetries, octal, withOctal, used, withUsed}
 use Rattle.model.specs.Selection.{skipped, classOf, selectedFor}
 use Rattle.model.specs.Sound.{pending, sending, failure, partialFailure, active, old, canceled, activate, disconnect}
 use Rattle.model.specs.Sound.{retriesInRange, castInRange, inRange, newWhole, oldWhole, sidesNeeded, causeFits, apart, setsApart, retriesFit, soundVersion, oneEach, soundLines, soundTable}
 use Rattle.model.specs.Standing.{standingOf, gridRule, unready}
-use Rattle.model.specs.Step.{manages, accepted, rule, unsound, step}
+use Rattle.model.specs.Step.{Setting, Step, stepOf, after, manages, accepted, rule, unsound, step}
 use Rattle.model.specs.Table.{order}
 use Rattle.model.specs.Tray.{members, creation, status, attributes, download}
-use Rattle.model.specs.Books.{Books, Owned, Filter, Split}
-use Rattle.model.specs.Retries.{noRetries}
 use Rattle.model.specs.Outcomes.{numberOf}
 use Rattle.model.specs.Given.{Result}
-use Rattle.model.specs.Step.{Setting, Step, stepOf, after}
 use Rattle.model.specs.declared.Event.{Event}
 use Rattle.model.specs.declared.Message.{Message}
 use Rattle.model.specs.declared.Version.{Version}

@@ -59,10 +59,6 @@ isSending s = eqb s sending
 abbrev pub isPurposed : ℕ → Bool
 isPurposed s = among s (sending ∷ failure ∷ partialFailure ∷ active ∷ [])
 
--- neither old nor canceled
-abbrev pub inUse : ℕ → Bool
-inUse s = not (among s (old ∷ canceled ∷ []))
-
 -- purposes: 1 activate, 2 modify, 3 disconnect; 0 none
 abbrev pub activate : ℕ
 activate = 1
