@@ -57,7 +57,7 @@ calm-put k r v w ms s line h n l o q row = record {
 le-one : {a b : Bool} → a ≡ b → one a ≤ one b
 le-one {a} {b} q = rw q (omega arith)
 
-opened-id : (s : ℕ) (e : Event) (v : Version) → opened s e v .id ≡ v .id
+pub opened-id : (s : ℕ) (e : Event) (v : Version) → opened s e v .id ≡ v .id
 unfolding opened
 opened-id s e v = refl
 
