@@ -31,10 +31,7 @@ u32-at-requires c κs = search needs
 returns : tie.Need-returns Inv-loop μ-loop
 unfolding ownerOf
 returns c =
-    let d = c .before in
-    let a = d .before .before .before .before .args in
-    let l = d .before .before .loop in
-    λ m. sym (l .inv ∙ ap (ownerBy (a .code)) (used-none (codePlace (a .books .now)) rowPlaces (l .i) _ (d .u32-at .ensures) (c .if1 .taken)))
+    λ m. sym (c .before .before .before .loop .inv ∙ ap (ownerBy _) (used-none (codePlace _) rowPlaces _ _ (c .before .u32-at .ensures) (c .if1 .taken)))
 
 cast-result : tie.Need-cast-result Inv-loop μ-loop
 cast-result c = search needs
@@ -42,11 +39,7 @@ cast-result c = search needs
 returns-2 : tie.Need-returns-2 Inv-loop μ-loop
 unfolding ownerOf
 returns-2 c =
-    let d = c .before .before in
-    let a = d .before .before .before .before .args in
-    let l = d .before .before .loop in
-    let row = used-more (codePlace (a .books .now)) rowPlaces (l .i) _ (d .before .loop-test .taken) (d .u32-at .ensures) (c .before .if1 .left) in
-    λ m. sym (l .inv ∙ owner-here (a .code) row (c .if2 .taken))
+    λ m. sym (c .before .before .before .before .loop .inv ∙ owner-here _ (used-more (codePlace _) rowPlaces _ _ (c .before .before .before .loop-test .taken) (c .before .before .u32-at .ensures) (c .before .if1 .left)) (c .if2 .taken))
 
 add-i : tie.Need-add-i Inv-loop μ-loop
 add-i c = search needs
@@ -56,18 +49,12 @@ loop-less c = search needs
 
 loop-again : tie.Need-loop-again Inv-loop μ-loop
 loop-again c =
-    let d = c .before .before in
-    let a = d .before .before .before .before .args in
-    let l = d .before .before .loop in
-    let row = used-more (codePlace (a .books .now)) rowPlaces (l .i) _ (d .before .loop-test .taken) (d .u32-at .ensures) (c .before .if1 .left) in
-    l .inv ∙ owner-next (a .code) row (c .if2 .left)
+    c .before .before .before .before .loop .inv ∙ owner-next _ (used-more (codePlace _) rowPlaces _ _ (c .before .before .before .loop-test .taken) (c .before .before .u32-at .ensures) (c .before .if1 .left)) (c .if2 .left)
 
 returns-3 : tie.Need-returns-3 Inv-loop μ-loop
 unfolding ownerOf
 returns-3 c =
-    let a = c .before .before .before .args in
-    let l = c .before .loop in
-    λ m. sym (l .inv ∙ ap (ownerBy (a .code)) (used-end (codePlace (a .books .now)) rowPlaces (l .i) (c .loop-test .left)))
+    λ m. sym (c .before .loop .inv ∙ ap (ownerBy _) (used-end (codePlace _) rowPlaces _ (c .loop-test .left)))
 
 pub owner-spec : {M : Type 1} → statement M
 owner-spec =

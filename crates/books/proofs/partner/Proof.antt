@@ -31,28 +31,17 @@ u64-at-requires c κs = search needs
 returns : tie.Need-returns Inv-loop μ-loop
 unfolding partnerOf
 returns c =
-    let d = c .before in
-    let a = d .before .before .before .before .args in
-    let l = d .before .before .loop in
-    λ m. sym (l .inv ∙ ap (partnerBy (a .code)) (used-none (splitPlace (a .books .now)) splitPlaces (l .i) _ (d .u64-at .ensures) (c .if1 .taken)))
+    λ m. sym (c .before .before .before .loop .inv ∙ ap (partnerBy _) (used-none (splitPlace _) splitPlaces _ _ (c .before .u64-at .ensures) (c .if1 .taken)))
 
 returns-2 : tie.Need-returns-2 Inv-loop μ-loop
 unfolding partnerOf
 returns-2 c =
-    let d = c .before .before in
-    let a = d .before .before .before .before .args in
-    let l = d .before .before .loop in
-    let row = used-more (splitPlace (a .books .now)) splitPlaces (l .i) _ (d .before .loop-test .taken) (d .u64-at .ensures) (c .before .if1 .left) in
-    λ m. sym (l .inv ∙ partner-one (a .code) row (c .if2 .taken))
+    λ m. sym (c .before .before .before .before .loop .inv ∙ partner-one _ (used-more (splitPlace _) splitPlaces _ _ (c .before .before .before .loop-test .taken) (c .before .before .u64-at .ensures) (c .before .if1 .left)) (c .if2 .taken))
 
 returns-3 : tie.Need-returns-3 Inv-loop μ-loop
 unfolding partnerOf
 returns-3 c =
-    let d = c .before .before .before in
-    let a = d .before .before .before .before .args in
-    let l = d .before .before .loop in
-    let row = used-more (splitPlace (a .books .now)) splitPlaces (l .i) _ (d .before .loop-test .taken) (d .u64-at .ensures) (c .before .before .if1 .left) in
-    λ m. sym (l .inv ∙ partner-other (a .code) row (c .before .if2 .left) (c .if3 .taken))
+    λ m. sym (c .before .before .before .before .before .loop .inv ∙ partner-other _ (used-more (splitPlace _) splitPlaces _ _ (c .before .before .before .before .loop-test .taken) (c .before .before .before .u64-at .ensures) (c .before .before .if1 .left)) (c .before .if2 .left) (c .if3 .taken))
 
 add-i : tie.Need-add-i Inv-loop μ-loop
 add-i c = search needs
@@ -62,18 +51,12 @@ loop-less c = search needs
 
 loop-again : tie.Need-loop-again Inv-loop μ-loop
 loop-again c =
-    let d = c .before .before .before in
-    let a = d .before .before .before .before .args in
-    let l = d .before .before .loop in
-    let row = used-more (splitPlace (a .books .now)) splitPlaces (l .i) _ (d .before .loop-test .taken) (d .u64-at .ensures) (c .before .before .if1 .left) in
-    l .inv ∙ partner-next (a .code) row (c .before .if2 .left) (c .if3 .left)
+    c .before .before .before .before .before .loop .inv ∙ partner-next _ (used-more (splitPlace _) splitPlaces _ _ (c .before .before .before .before .loop-test .taken) (c .before .before .before .u64-at .ensures) (c .before .before .if1 .left)) (c .before .if2 .left) (c .if3 .left)
 
 returns-4 : tie.Need-returns-4 Inv-loop μ-loop
 unfolding partnerOf
 returns-4 c =
-    let a = c .before .before .before .args in
-    let l = c .before .loop in
-    λ m. sym (l .inv ∙ ap (partnerBy (a .code)) (used-end (splitPlace (a .books .now)) splitPlaces (l .i) (c .loop-test .left)))
+    λ m. sym (c .before .loop .inv ∙ ap (partnerBy _) (used-end (splitPlace _) splitPlaces _ (c .loop-test .left)))
 
 pub partner-spec : {M : Type 1} → statement M
 partner-spec =
