@@ -2,7 +2,7 @@
 -- Assumes nothing.
 use mathlib.Core.Path.{_≡_, refl, sym, ap, _∙_, subst}
 use Prim.Native.Nat.{ℕ, zero, suc, _+_}
-use mathlib.Core.Bool.{Bool, true, false, cond, _&&_, _||_}
+use mathlib.Core.Bool.{Bool, true, false, cond, _&&_, _||_, false≢true}
 use mathlib.Core.Option.{Option, none as nothing, some}
 use mathlib.Core.List.{List, [], _∷_, _++_, map}
 use native.Mathlib.Omega.{arith}
@@ -14,7 +14,7 @@ use Rattle.model.specs.Basics.{iff, keep, first, all, All, none, with}
 -- ---- Bools
 
 pub clash : {X : Type 0} → _≡_ {A = Bool} false true → X
-clash q = absurd (let z : _≡_ {A = ℕ} 0 1 = cc in omega arith)
+clash q = absurd (false≢true q)
 
 pub none-true : (b : Bool) → (b ≡ true → ⊥) → b ≡ false
 none-true true h = absurd (h refl)

@@ -2,7 +2,7 @@
 -- Assumes nothing.
 use mathlib.Core.Path.{_≡_, refl, sym, ap, _∙_}
 use Prim.Native.Nat.{ℕ, _^_, _≤_}
-use mathlib.Core.Bool.{Bool, true, false, cond, not, _&&_, _||_, or-true}
+use mathlib.Core.Bool.{Bool, true, false, cond, not, _&&_, _||_, or-true, and-false}
 use mathlib.Core.List.{[], _∷_}
 use lib.Dec.{eqb, leb, ltb}
 use native.Mathlib.Omega.{arith}
@@ -46,10 +46,6 @@ stands-old e v h = go (eqb (e .sender) 0) (v .new .created && eqb (e .sender) (v
     go true b false d q = absurd (omega arith)
     go false true false d q = absurd (omega arith)
     go false false false d q = absurd (omega arith)
-
-and-none : (b : Bool) → (b && false) ≡ false
-and-none true = refl
-and-none false = refl
 
 pub none-used : retriesInRange noRetries ≡ true
 unfolding retriesInRange
@@ -115,7 +111,7 @@ module _ (selected : ℕ) (set : isSet selected ≡ true) (e : Event) (formed : 
     conf = set-none;
     wait = set;
     cw = nobody-apart selected;
-    confirms = rw (other, and-none (v .live));
+    confirms = rw (other, and-false (v .live));
     created = purposed-created v row (back-equal (v .status) 6 (λ (s : ℕ). isPurposed s ≡ true) q refl);
     uncancelled = back-equal (v .status) 6 (λ (s : ℕ). eqb s cancelPending ≡ false) q refl;
   }

@@ -2,7 +2,7 @@
 -- Assumes nothing.
 use Prim.Native.Nat.{ℕ, zero, suc, _+_, _-_, _^_, _≤_, _<_}
 use mathlib.Core.Path.{_≡_, refl, sym, ap, ap₂, _∙_}
-use mathlib.Core.Bool.{Bool, true, false, cond, not, _&&_, _||_, and-assoc, and-true}
+use mathlib.Core.Bool.{Bool, true, false, cond, not, _&&_, _||_, and-assoc, and-true, false≢true}
 use mathlib.Core.List.{List, [], _∷_, _++_, map}
 use native.Mathlib.Nat.{one-mul, add-comm, add-zero, le-refl}
 use native.Mathlib.Decide.{le-ind}
@@ -13,7 +13,7 @@ use lib.Bits.{bitOr, or-shifted-r}
 use lib.Dec.{ltb, leb}
 use lib.ListN.{length, getD, take, List·getD-map, List·getD-eq-default}
 use lib.Seq.{take-suc, take-length}
-use Rattle.octets.specs.Fields.{false-true, and-l, and-r}
+use Rattle.octets.specs.Fields.{and-l, and-r}
 use Rattle.systems.specs.Set.{member, maskOf}
 use Rattle.systems.specs.Laws.{mask-lt, mask-member}
 use Rattle.model.specs.Basics.{all, every, implies}
@@ -155,7 +155,7 @@ in-room sound x i r e t = ltb-true i 63 (go sound (ltb i 63) (x .present || not 
     go : (x y b : Bool) → (x && y && b) ≡ true → y ≡ true
     go true true b h = refl
     go true false b h = h
-    go false y b h = absurd (false-true h)
+    go false y b h = absurd (false≢true h)
 
 -- ---- sound marks
 

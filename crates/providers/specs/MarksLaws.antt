@@ -2,13 +2,13 @@
 -- Assumes nothing.
 use Prim.Native.Nat.{ℕ, zero, suc, _%_, _^_, _≤_, _<_}
 use mathlib.Core.Path.{_≡_, refl, sym, ap, ap₂, _∙_}
-use mathlib.Core.Bool.{Bool, true, false, _&&_}
+use mathlib.Core.Bool.{Bool, true, false, _&&_, false≢true}
 use native.Mathlib.Nat.{div-one, lt-of-le-of-lt}
 use native.Mathlib.Omega.{arith}
 use borrow.Author.Tests.{lt-ltb, eq-eqb, ne-eqb, eqb-true}
 use lib.Bits.{bitAnd, and-le-l}
 use lib.Dec.{eqb}
-use Rattle.octets.specs.Fields.{false-true, and-r}
+use Rattle.octets.specs.Fields.{and-r}
 use Rattle.systems.specs.Set.{member}
 use Rattle.systems.specs.Laws.{member-and, ext}
 use Rattle.model.specs.Basics.{every, implies}
@@ -60,6 +60,6 @@ sound-bits m hp hl = rw (lt-ltb (m .present) (2 ^ 64) hp, lt-ltb (m .local) (2 ^
 
         same : (b : Bool) → every in? 63 ≡ b → eqb (bitAnd (m .local) (m .present)) (m .local) ≡ b
         same true e = eq-eqb _ _ (ext 64 _ _ (lt-of-le-of-lt (and-le-l (m .local) (m .present)) hl) hl (meet e))
-        same false e = ne-eqb _ _ (λ q. false-true (sym e ∙ every-all in? 63 (each q)))
+        same false e = ne-eqb _ _ (λ q. false≢true (sym e ∙ every-all in? 63 (each q)))
     go true x false y = refl
     go false x b y = refl
