@@ -1,21 +1,20 @@
 -- Two answers of different systems, on one broadcast: neither sees the other, and the order does not matter.
 -- Assumes nothing.
 use mathlib.Core.Path.{_≡_, refl, sym, ap, ap₂, _∙_, subst}
-use Prim.Native.Nat.{ℕ, zero, suc, _+_, _-_, _*_, _/_, _%_, _^_, _≤_, _<_, max}
-use mathlib.Core.Bool.{Bool, true, false, cond, not, _&&_, _||_}
-use mathlib.Core.List.{List, [], _∷_, _++_}
+use Prim.Native.Nat.{ℕ, _+_, _-_, _/_, _%_, _^_, _≤_, _<_, max}
+use mathlib.Core.Bool.{Bool, true, false, cond, not, _&&_}
 use lib.Dec.{eqb, ltb}
 use native.Mathlib.Nat.{sub-right-comm, zero-div}
 use native.Mathlib.Omega.{arith}
 use borrow.Author.Tests.{eqb-true, ltb-true, not-false}
 use Rattle.systems.specs.Set.{member}
 use Rattle.systems.specs.Laws.{without-other}
-use Rattle.model.specs.Retries.{used, withUsed}
+use Rattle.model.specs.Retries.{used}
 use Rattle.model.specs.Closing.{open?, closed, settled}
 use Rattle.model.specs.Answers.{answering, awaited, again, succeeds, moves, moved, heard, askedAgain}
 use Rattle.model.specs.Refusals.{beforeStart}
 use Rattle.model.specs.Outcomes.{judge, answerOrder}
-use Rattle.model.proofs.Lists.{clash, and-r, none-true}
+use Rattle.model.proofs.Lists.{clash, and-r}
 use Rattle.model.proofs.Digits.{used-other, used-comm}
 use Rattle.model.specs.declared.Broadcast.{Broadcast}
 use Rattle.model.specs.declared.Version.{Version}

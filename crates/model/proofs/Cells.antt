@@ -5,9 +5,9 @@ use mathlib.Core.List.{List, [], _∷_}
 use mathlib.Core.Bool.{Bool, true, false, cond, _&&_, _||_}
 use Prim.Native.Nat.{ℕ, _+_, _*_, _/_, _%_, _-_, _<_, _≤_}
 use native.Mathlib.Omega.{arith}
-use borrow.Author.Tests.{ltb-true, lt-ltb, le-ltb, leb-true, lt-leb, ne-eqb}
-use lib.Dec.{eqb, eqb→eq, ltb, leb}
-use lib.ListN.{getD, length}
+use borrow.Author.Tests.{lt-ltb, le-ltb, leb-true, lt-leb, ne-eqb}
+use lib.Dec.{eqb, eqb→eq, leb}
+use lib.ListN.{getD}
 use Rattle.model.specs.Standing.{gridRule, isGridKind, placeOf, kindAt, statusFor}
 use Rattle.model.specs.Basics.{among}
 use Rattle.model.proofs.Lists.{clash}

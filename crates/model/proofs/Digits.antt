@@ -8,14 +8,14 @@ use lib.Dec.{leb, ltb, lit<}
 use lib.ListN.{getD}
 use mathlib.Core.List.{List, [], _∷_}
 use lib.Arith.{digits-div, digits-mod, digits-lt}
-use native.Mathlib.Nat.{pow-zero, pow-suc, pow-succ', mul-one, one-mul, mul-suc, mul-left-comm, div-one, div-div-eq-div-mul, div-add-mod', div-mul-le-self, mod-le, mod-lt, le-trans, mul-le-mul-right, add-mul-div-left, add-mul-mod-self-left, add-mul-div-right, add-mul-mod-self-right, sub-add-cancel, zero-div, add-mul, mul-assoc, mul-comm, add-assoc, mod-eq-of-lt, div-eq-of-lt, add-zero, zero-mul, div-lt-iff-lt-mul}
+use native.Mathlib.Nat.{pow-zero, pow-suc, pow-succ', mul-one, mul-suc, mul-left-comm, div-one, div-div-eq-div-mul, div-add-mod', div-mul-le-self, mod-le, mod-lt, le-trans, mul-le-mul-right, add-mul-div-left, add-mul-mod-self-left, sub-add-cancel, zero-div, add-mul, add-zero, zero-mul, div-lt-iff-lt-mul}
 use native.Mathlib.Omega.{arith}
 use lib.Pow.{pow-pos, pow-add}
 use borrow.Author.Tests.{leb-true, leb-false, ltb-true, lt-ltb}
 use Rattle.model.specs.Basics.{none, with}
 use Rattle.model.specs.Sound.{retriesInRange}
 use Rattle.model.proofs.Lists.{conj-at, conj-all}
-use Rattle.model.specs.Retries.{placeOf, octal, withOctal, used, withUsed, noRetries}
+use Rattle.model.specs.Retries.{octal, withOctal, used, withUsed, noRetries}
 use Rattle.model.specs.declared.Retries.{Retries}
 
 -- the digit at p

@@ -1,8 +1,8 @@
 -- What a step does and sends: a refusal nothing, an accepted event at most 63 messages, each about the event's number.
 -- Assumes nothing.
-use mathlib.Core.Path.{_≡_, refl, sym, ap, _∙_, subst}
+use mathlib.Core.Path.{_≡_, refl, sym, ap, _∙_}
 use Prim.Native.Nat.{ℕ, zero, suc, _+_, _≤_}
-use mathlib.Core.Bool.{Bool, true, false, cond, not, _&&_}
+use mathlib.Core.Bool.{Bool, true, false, cond}
 use mathlib.Core.Option.{Option, none as nothing, some}
 use mathlib.Core.List.{List, [], _∷_, _++_, map}
 use lib.Dec.{eqb}
@@ -10,24 +10,24 @@ use lib.ListN.{length, length-append, length-map}
 use native.Mathlib.Omega.{arith}
 use borrow.Author.Tests.{eqb-true, not-false}
 use Rattle.systems.specs.Set.{member}
-use Rattle.model.specs.Basics.{among, All, none}
+use Rattle.model.specs.Basics.{among, none}
 use Rattle.model.specs.Books.{Books}
-use Rattle.model.specs.Table.{Change, put, changes, rowsOf}
+use Rattle.model.specs.Table.{Change, rowsOf}
 use Rattle.model.specs.Record.{isCreate, isAnswer, isBroadcast, wellFormed}
 use Rattle.model.specs.Outcomes.{isDone, judge, orderOf}
 use Rattle.model.specs.Selection.{selectedFor}
-use Rattle.model.specs.Given.{Given, Result, refuse, accept, unless, found, rest, workedOne}
-use Rattle.model.specs.Tray.{membersTo, members, sidesTold, toSoas, downloads, downloadTo, statusTold, attributesTold, restatedTold, windowTold, toldAtClose}
-use Rattle.model.specs.Creates.{creates, createOn, freshVersion, concurred}
-use Rattle.model.specs.Changes.{modifies, modified, turns, cancelled, acknowledged, resolved, windowRuns, windowMarked, windowTurned, marks}
-use Rattle.model.specs.Closing.{open?, closed, closingTold, settled, settles, settlingTold}
-use Rattle.model.specs.Broadcast.{opened, broadcastOf, broadcasts}
+use Rattle.model.specs.Given.{Given, Result, refuse, accept, found, rest, workedOne}
+use Rattle.model.specs.Tray.{membersTo, members, sidesTold, toSoas, downloads, downloadTo, statusTold, attributesTold, restatedTold}
+use Rattle.model.specs.Creates.{creates, createOn, concurred}
+use Rattle.model.specs.Changes.{modified, windowRuns, marks}
+use Rattle.model.specs.Closing.{open?, closed, closingTold, settlingTold}
+use Rattle.model.specs.Broadcast.{opened, broadcasts}
 use Rattle.model.specs.Answers.{answers, heard, askedAgain, again, answering}
 use Rattle.model.specs.Refusals.{refuses}
-use Rattle.model.specs.Step.{whenFound, purges, manages, accepted, rule, Setting, line, unsound, given, step, stepOf, after}
+use Rattle.model.specs.Step.{whenFound, manages, accepted, rule, Setting, line, unsound, given, step, stepOf, after}
 use Rattle.model.proofs.Lists.{clash}
 use Rattle.model.proofs.Arrivals.{member-none}
-use Rattle.model.proofs.Apart.{stepBy, Near, About, Fine, fine, rows-out, rows-rows}
+use Rattle.model.proofs.Apart.{stepBy, Fine, fine, rows-out}
 use Rattle.model.proofs.Locality.{ruleIn, local}
 use Rattle.model.specs.declared.Version.{Version}
 use Rattle.model.specs.declared.Event.{Event}

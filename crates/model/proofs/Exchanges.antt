@@ -1,11 +1,10 @@
 -- From two neighbours to any number of exchanges: nothing here knows what a rule is.
 -- Assumes nothing.
 use mathlib.Core.Path.{_≡_, refl, sym, ap, ap₂, _∙_, subst}
-use Prim.Native.Nat.{ℕ, zero, suc, _+_, _≤_}
-use mathlib.Core.Bool.{Bool, true, false, cond}
+use Prim.Native.Nat.{ℕ, zero, suc, _+_}
+use mathlib.Core.Bool.{Bool}
 use mathlib.Core.List.{List, [], _∷_, _++_, append-assoc}
 use lib.ListN.{length}
-use Rattle.model.specs.Given.{Result}
 use Rattle.model.specs.Step.{Step, after, final, outcomes, messages}
 use Rattle.model.specs.Exchange.{Same, swapAt, reorder, MayAt, May, isFor, mailOf}
 use Rattle.model.specs.declared.Version.{Version}

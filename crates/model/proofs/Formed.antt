@@ -1,14 +1,12 @@
 -- What is known of the fields of a well-formed event, kind by kind.
 -- Assumes nothing.
-use mathlib.Core.Path.{_≡_, refl, sym, ap, _∙_, subst}
+use mathlib.Core.Path.{_≡_, refl, subst}
 use Prim.Native.Nat.{ℕ, _^_, _≤_, _<_}
-use mathlib.Core.Bool.{Bool, true, false, cond, not, _&&_, _||_}
+use mathlib.Core.Bool.{Bool, true, false, cond}
 use mathlib.Core.List.{List, [], _∷_}
-use lib.Dec.{eqb, ltb, leb}
+use lib.Dec.{eqb, ltb}
 use lib.ListN.{getD}
-use native.Mathlib.Omega.{arith}
 use borrow.Author.Tests.{eqb-true, ltb-true}
-use Rattle.model.specs.Basics.{among}
 use Rattle.model.specs.Numbers.{tenDigits}
 use Rattle.model.specs.Record.{isPlain, isAnswer, named, unused, results, plainly, newCreates, oldCreates, newModifies, oldModifies, modifiesActive, replies, silent, kindFits, fitsBits, wellFormed}
 use Rattle.model.specs.Answers.{answering}

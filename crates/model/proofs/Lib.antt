@@ -1,7 +1,6 @@
 pub mod Lists
 pub mod Order
 pub mod TableLaws
-pub mod Places
 pub mod Exchanges
 pub mod Apart
 pub mod Locality

@@ -1,18 +1,20 @@
--- Laws of lists: those that pass a test, and properties of all members.
+-- Laws of tests and of lists: those that pass a test, and properties of all members.
 -- Assumes nothing.
 use mathlib.Core.Path.{_≡_, refl, sym, ap, _∙_, subst}
-use Prim.Native.Nat.{ℕ, zero, suc, _+_, _≤_}
-use mathlib.Core.Bool.{Bool, true, false, cond, _&&_, _||_}
+use Prim.Native.Nat.{ℕ, zero, suc, _+_}
+use mathlib.Core.Bool.{Bool, true, false, cond, _&&_, _||_, false≢true}
 use mathlib.Core.Option.{Option, none as nothing, some}
 use mathlib.Core.List.{List, [], _∷_, _++_, map}
 use native.Mathlib.Omega.{arith}
+use borrow.Author.Tests.{eqb-true}
+use lib.Dec.{eqb}
 use lib.ListN.{getD}
-use Rattle.model.specs.Basics.{keep, first, any, all, All, none, with}
+use Rattle.model.specs.Basics.{iff, keep, first, all, All, none, with}
 
 -- ---- Bools
 
 pub clash : {X : Type 0} → _≡_ {A = Bool} false true → X
-clash q = absurd (let z : _≡_ {A = ℕ} 0 1 = cc in omega arith)
+clash q = absurd (false≢true q)
 
 pub none-true : (b : Bool) → (b ≡ true → ⊥) → b ≡ false
 none-true true h = absurd (h refl)
@@ -34,6 +36,29 @@ both-true false b h k = h
 pub or-off : (a b : Bool) → (a || b) ≡ false → (a ≡ false) × (b ≡ false)
 or-off true b h = clash (sym h)
 or-off false b h = (refl, h)
+
+pub or-l : (a b : Bool) → a ≡ true → (a || b) ≡ true
+or-l true b h = refl
+or-l false b h = clash h
+
+pub or-but : (a b : Bool) → (a || b) ≡ true → b ≡ false → a ≡ true
+or-but true b h k = refl
+or-but false b h k = clash (sym k ∙ h)
+
+pub iff-true : (b : Bool) → iff b true ≡ true → b ≡ true
+iff-true true h = refl
+iff-true false h = h
+
+pub iff-false : (b : Bool) → iff b false ≡ true → b ≡ false
+iff-false true h = clash h
+iff-false false h = refl
+
+-- a number that passes the test for n is n
+pub at-equal : (s n : ℕ) (P : ℕ → Type 0) → eqb s n ≡ true → P s → P n
+at-equal s n P q h = subst P (eqb-true s n q) h
+
+pub back-equal : (s n : ℕ) (P : ℕ → Type 0) → eqb s n ≡ true → P n → P s
+back-equal s n P q h = subst P (sym (eqb-true s n q)) h
 
 -- several tests in a row, as `a && b && c` has them
 abbrev pub conjFrom : Bool → List Bool → Bool

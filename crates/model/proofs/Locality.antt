@@ -1,28 +1,28 @@
 -- The rules are local: each answer keeps to the event's number. The proof has the shape of the rules.
 -- Assumes nothing.
-use mathlib.Core.Path.{_≡_, refl, sym, ap, _∙_, subst}
-use Prim.Native.Nat.{ℕ, zero, suc, _+_, _≤_}
-use mathlib.Core.Bool.{Bool, true, false, cond, not, _&&_}
+use mathlib.Core.Path.{_≡_, refl, ap}
+use Prim.Native.Nat.{ℕ, _+_}
+use mathlib.Core.Bool.{Bool, true, false, cond, _&&_}
 use mathlib.Core.Option.{Option, none as nothing, some}
 use mathlib.Core.List.{List, [], _∷_, _++_, map}
 use lib.Dec.{eqb}
 use native.Mathlib.Omega.{arith}
-use Rattle.model.specs.Basics.{keep, first, among, All, none, with}
+use Rattle.model.specs.Basics.{keep, among, none, with}
 use Rattle.model.specs.Books.{Books, lineOf}
-use Rattle.model.specs.Table.{Change, put, add, strike, find, others, notNamed, adds, nameOf}
+use Rattle.model.specs.Table.{put, add, strike, find, others, notNamed, adds}
 use Rattle.model.specs.Sound.{live, worked}
 use Rattle.model.specs.Record.{isCreate, isAnswer, isBroadcast, wellFormed}
 use Rattle.model.specs.Outcomes.{isDone, judge, orderOf}
 use Rattle.model.specs.Selection.{selectedFor}
-use Rattle.model.specs.Given.{Given, Result, refuse, accept, unless, nameIn, found, rest, workedOne}
-use Rattle.model.specs.Tray.{toSoas, message, sidesTold, members, downloads, downloadTo, statusTold, attributesTold, restatedTold, createdTold, windowTold, toldAtClose}
+use Rattle.model.specs.Given.{Given, Result, refuse, accept, nameIn, found, rest, workedOne}
+use Rattle.model.specs.Tray.{toSoas, message, sidesTold, members, downloads, downloadTo, restatedTold, windowTold, toldAtClose}
 use Rattle.model.specs.Creates.{creates, createOn, freshVersion, concurred}
-use Rattle.model.specs.Changes.{modifies, modified, newModified, oldModified, turns, turned, cancelled, acknowledged, resolved, windowRuns, windowMarked, windowTurned, marks}
+use Rattle.model.specs.Changes.{modifies, modified, newModified, oldModified, turns, cancelled, acknowledged, resolved, windowRuns, windowMarked, windowTurned, marks}
 use Rattle.model.specs.Closing.{open?, closed, retired, retiring, retires, takesOver, closingTold, settled, settles, settlingTold}
-use Rattle.model.specs.Broadcast.{opened, broadcastOf, broadcasts}
-use Rattle.model.specs.Answers.{answers, heard, askedAgain, again, answering}
+use Rattle.model.specs.Broadcast.{opened, broadcasts}
+use Rattle.model.specs.Answers.{answers, heard, askedAgain, again}
 use Rattle.model.specs.Refusals.{refuses}
-use Rattle.model.specs.Step.{whenFound, purges, manages, accepted, rule, Setting, line}
+use Rattle.model.specs.Step.{whenFound, manages, accepted, rule, Setting}
 use Rattle.model.proofs.Lists.{all-cond, all-append, all-map, all-any, all-keep, all-first}
 use Rattle.model.proofs.TableLaws.{find-name}
 use Rattle.model.proofs.Apart.{Rule, Near, About, Rows, Fine, Local}
@@ -32,7 +32,7 @@ use Rattle.model.specs.declared.Version.{Version}
 use Rattle.model.specs.declared.Event.{Event}
 use Rattle.model.specs.declared.Message.{Message}
 use Rattle.model.specs.declared.Outcome.{Outcome}
-use Rattle.model.specs.declared.Outcome.the-variants.{Unknown, Malformed, Done}
+use Rattle.model.specs.declared.Outcome.the-variants.{Unknown, Malformed}
 
 -- the rules of a setting; fields that are malformed are refused
 abbrev pub ruleIn : Setting → Rule

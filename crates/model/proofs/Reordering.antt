@@ -1,28 +1,27 @@
 -- Demand 3, from its parts.
 -- Assumes nothing.
-use mathlib.Core.Path.{_≡_, refl, sym, ap, ap₂, _∙_, subst}
-use Prim.Native.Nat.{ℕ, zero, suc, _+_, _≤_}
-use mathlib.Core.Bool.{Bool, true, false, cond, not, _&&_}
+use mathlib.Core.Path.{_≡_, refl, sym, ap, _∙_}
+use Prim.Native.Nat.{ℕ, suc, _+_, _≤_}
+use mathlib.Core.Bool.{Bool, true, false, not}
 use mathlib.Core.List.{List, [], _∷_, _++_}
 use lib.Dec.{leb}
 use lib.ListN.{length, getD}
 use native.Mathlib.Omega.{arith}
-use borrow.Author.Tests.{leb-true, not-true, not-false}
+use borrow.Author.Tests.{leb-true, not-false}
 use Rattle.model.specs.Basics.{none, with}
 use Rattle.model.specs.Books.{soundBooks, soundRetries}
-use Rattle.model.specs.Table.{Rising, changes}
+use Rattle.model.specs.Table.{Rising}
 use Rattle.model.specs.Sound.{soundTable}
-use Rattle.model.specs.Given.{Result, nameIn}
+use Rattle.model.specs.Given.{nameIn}
 use Rattle.model.specs.Step.{Setting, Step, line, unsound, PLACES, step, stepOf, after, final, outcomes, messages}
-use Rattle.model.specs.Exchange.{Exchangeable, lines, answers, May, Same, reorder, mailOf, Premises, Demand3}
-use Rattle.model.proofs.Lists.{clash, conj-at, conj-all}
+use Rattle.model.specs.Exchange.{Exchangeable, lines, answers, May, Same, reorder, mailOf, Demand3}
+use Rattle.model.proofs.Lists.{conj-at, conj-all}
 use Rattle.model.proofs.TableLaws.{rising-changes}
 use Rattle.model.proofs.Exchanges.{Commute, all}
-use Rattle.model.proofs.Apart.{stepBy, fine, grown, apart}
+use Rattle.model.proofs.Apart.{stepBy, grown, apart}
 use Rattle.model.proofs.Locality.{ruleIn, local}
 use Rattle.model.proofs.Replies.{replies-commute}
 use Rattle.model.proofs.SoundTables.{SoundIn, table-says, says-table, sound-rules}
-use Rattle.model.specs.declared.Id.{Id}
 use Rattle.model.specs.declared.Version.{Version}
 use Rattle.model.specs.declared.Event.{Event}
 use Rattle.model.specs.declared.Message.{Message}

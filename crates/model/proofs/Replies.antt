@@ -1,25 +1,24 @@
 -- Two answers (replies, silences) of different systems for one version commute.
 -- Assumes nothing.
 use mathlib.Core.Path.{_≡_, refl, sym, ap, ap₂, _∙_, subst}
-use Prim.Native.Nat.{ℕ, zero, suc, _+_, _≤_}
-use mathlib.Core.Bool.{Bool, true, false, cond, not, _&&_, _||_}
+use Prim.Native.Nat.{ℕ, _+_, _≤_}
+use mathlib.Core.Bool.{Bool, true, false, cond, not}
 use mathlib.Core.Option.{Option, none as nothing, some}
 use mathlib.Core.List.{List, [], _∷_, _++_, map, append-nil, append-assoc}
-use lib.Dec.{eqb, ltb}
-use native.Mathlib.Omega.{arith}
+use lib.Dec.{eqb}
 use borrow.Author.Tests.{eqb-true, eqb-false, ne-eqb}
-use Rattle.model.specs.Basics.{keep, All, none, with, iff, isNone, holds}
-use Rattle.model.specs.Table.{order, Change, put, change, changes, find, notNamed, others, rowsOf, Rising}
+use Rattle.model.specs.Basics.{keep, All, none, with}
+use Rattle.model.specs.Table.{Change, put, change, changes, find, notNamed, others, rowsOf, Rising}
 use Rattle.model.specs.Sound.{live}
 use Rattle.model.specs.Record.{isCreate, isAnswer, wellFormed}
-use Rattle.model.specs.Outcomes.{isDone, judge, orderOf, answerOrder}
-use Rattle.model.specs.Given.{Given, Result, refuse, accept, unless, nameIn, found, rest}
+use Rattle.model.specs.Outcomes.{isDone}
+use Rattle.model.specs.Given.{Result, refuse, accept, unless, nameIn}
 use Rattle.model.specs.Tray.{downloadTo}
 use Rattle.model.specs.Closing.{open?, closed, retired, retiring, retires, takesOver, settled, settles, settlingTold}
 use Rattle.model.specs.Answers.{answering, awaited, again, heard, askedAgain, answers}
-use Rattle.model.specs.Refusals.{absent, early, unawaited, refuses, beforeStart}
+use Rattle.model.specs.Refusals.{absent, early, unawaited, beforeStart}
 use Rattle.model.specs.Step.{Setting, accepted, rule, after}
-use Rattle.model.specs.Exchange.{isFor, mailOf}
+use Rattle.model.specs.Exchange.{mailOf}
 use Rattle.model.proofs.Lists.{keep-append, all-keep, passed, clash}
 use Rattle.model.proofs.Order.{order-self}
 use Rattle.model.proofs.TableLaws.{put-cover, find-name, find-put, find-other, part-out}
@@ -117,7 +116,7 @@ asked-swap most e f v x s n d = go (eqb (answering e) s) refl
     go false q = rw (asked-else most e v x s n (eqb-false (answering e) s q)) (sym (append-nil (mailOf x s n (askedAgain most f v))))
 
 -- kinds 11 and 12 are no creates
-answer-create : (k : ℕ) → isAnswer k ≡ true → isCreate k ≡ false
+pub answer-create : (k : ℕ) → isAnswer k ≡ true → isCreate k ≡ false
 answer-create k h = go (eqb k 11) refl (eqb k 12) refl
   where
     at : (n : ℕ) → k ≡ n → isCreate n ≡ false → isCreate k ≡ false

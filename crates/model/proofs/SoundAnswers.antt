@@ -1,8 +1,8 @@
 -- A reply or silence that is heard leaves a version in a broadcast.
 -- Assumes nothing.
 use mathlib.Core.Path.{_≡_, refl, sym, ap, ap₂, _∙_, subst}
-use Prim.Native.Nat.{ℕ, zero, suc, _+_, _-_, _^_, _≤_, _<_, max}
-use mathlib.Core.Bool.{Bool, true, false, cond, not, _&&_, _||_}
+use Prim.Native.Nat.{ℕ, _+_, _-_, _^_, _≤_, _<_, max}
+use mathlib.Core.Bool.{Bool, true, false, cond, not, _&&_, _||_, or-true}
 use mathlib.Core.List.{List, [], _∷_}
 use lib.Dec.{eqb, leb, ltb}
 use native.Mathlib.Omega.{arith}
@@ -10,15 +10,15 @@ use borrow.Author.Tests.{eqb-true, eqb-false, eq-eqb, ltb-true, lt-ltb, leb-true
 use lib.Pow.{pow-pos}
 use Rattle.systems.specs.Set.{member}
 use Rattle.systems.specs.Laws.{without-same, without-other}
-use Rattle.model.specs.Basics.{among, iff, implies, every, none, with}
+use Rattle.model.specs.Basics.{iff, implies, none, with}
 use Rattle.model.specs.Numbers.{isTime, isSet}
 use Rattle.model.specs.Retries.{used, withUsed}
-use Rattle.model.specs.Sound.{cancelPending, failure, partialFailure, isSending, isPurposed, activate, apart, setsApart, retriesFit, liveConfirmed, castInRange}
+use Rattle.model.specs.Sound.{cancelPending, isSending, isPurposed, activate, apart, setsApart, retriesFit}
 use Rattle.model.specs.Answers.{answering, awaited, again, succeeds, moves, moved, heard}
-use Rattle.model.proofs.Lists.{clash, and-l, and-r, both-true, conj-at, conj-all}
+use Rattle.model.proofs.Lists.{and-l, and-r, both-true, conj-at, conj-all, or-l, iff-true, back-equal}
 use Rattle.model.proofs.Arrivals.{retries-fit}
 use Rattle.model.proofs.Digits.{used-same, used-other, used-fits}
-use Rattle.model.proofs.SoundRows.{CastRanges, cast-ranges, ranges-cast, Ranges, Row}
+use Rattle.model.proofs.SoundRows.{CastRanges, cast-ranges, ranges-cast, Row}
 use Rattle.model.proofs.SoundSets.{every-at, every-all, set-with, set-without, some-member, some-zero, Apart, apart-says, says-apart, apart-turned, apart-with, apart-with-r, apart-without, apart-without-r}
 use Rattle.model.proofs.SoundCasts.{Casting, purposed-created, no-canceller}
 use Rattle.model.specs.declared.Broadcast.{Broadcast}
@@ -111,13 +111,9 @@ module _ (p d : ℕ) (l : 1 ≤ p) (m : p < 64) (h : d < 8) (c : Broadcast) (w :
   unfolding retriesFit
   fits-moves a s n k x = every-all (fitting (moves a s p n c)) 63 (λ q lq mq. go q lq mq (eqb q p) refl)
     where
-      or-r : (b : Bool) → (b || true) ≡ true
-      or-r true = refl
-      or-r false = refl
-
       same : (b : Bool) → cond b (n + 1) 0 < 8 → (member (cond b (c .waiting) (c .waiting - 2 ^ p)) p || eqb (used (withUsed (c .retries) p (cond b (n + 1) 0)) p) 0) ≡ true
       same true k = rw w
-      same false k = ap (λ (b : Bool). member (c .waiting - 2 ^ p) p || b) (eq-eqb _ 0 (used-same (c .retries) p 0 k)) ∙ or-r (member (c .waiting - 2 ^ p) p)
+      same false k = ap (λ (b : Bool). member (c .waiting - 2 ^ p) p || b) (eq-eqb _ 0 (used-same (c .retries) p 0 k)) ∙ or-true (member (c .waiting - 2 ^ p) p)
 
       kept : (q : ℕ) → (q ≡ p → ⊥) → (b : Bool) → member (cond b (c .waiting) (c .waiting - 2 ^ p)) q ≡ member (c .waiting) q
       kept q ne true = refl
@@ -180,27 +176,15 @@ module _ (most : ℕ) (small : most ≤ 7) (e : Event) (v : Version) (row : Row 
       parts = parted-of (v .cast) (row .apart)
 
       back : (P : ℕ → Type 0) → P 3 → P (v .status)
-      back P h = subst P (sym (eqb-true (v .status) 3 is-sending)) h
-
-      iff-true : (b : Bool) → iff b true ≡ true → b ≡ true
-      iff-true true h = refl
-      iff-true false h = h
+      back P h = back-equal (v .status) 3 P is-sending h
 
       -- a live version that is sending has a confirmed system, and keeps it
       more : (x b : Bool) → implies x (ltb 0 (v .cast .confirmed) || (eqb (v .cast .waiting) 0 && eqb (v .cast .failed) 0)) ≡ true
           → implies x (ltb 0 (cond b (v .cast .confirmed + 2 ^ answering e) (v .cast .confirmed)) || (eqb (moved most e (v .cast) .waiting) 0 && eqb (moved most e (v .cast) .failed) 0)) ≡ true
       more false b h = refl
-      more true true h = one-of _ _ (lt-ltb 0 (v .cast .confirmed + 2 ^ answering e) (let q : 0 < 2 ^ answering e = pow-pos (answering e) in omega arith))
+      more true true h = or-l _ _ (lt-ltb 0 (v .cast .confirmed + 2 ^ answering e) (let q : 0 < 2 ^ answering e = pow-pos (answering e) in omega arith))
+      more true false h = or-l _ _ (first (ltb 0 (v .cast .confirmed)) (eqb (v .cast .failed) 0) (rw (some-not (v .cast .waiting) waited) at h))
         where
-          one-of : (a b : Bool) → a ≡ true → (a || b) ≡ true
-          one-of true b h = refl
-          one-of false b h = clash h
-      more true false h = one-of _ _ (first (ltb 0 (v .cast .confirmed)) (eqb (v .cast .failed) 0) (rw (some-not (v .cast .waiting) waited) at h))
-        where
-          one-of : (a b : Bool) → a ≡ true → (a || b) ≡ true
-          one-of true b h = refl
-          one-of false b h = clash h
-
           some-not : (s : ℕ) → ltb 0 s ≡ true → eqb s 0 ≡ false
           some-not s h = some-zero s ∙ ap not h
 

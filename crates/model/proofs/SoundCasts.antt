@@ -1,17 +1,16 @@
 -- A version in a broadcast: sound while the broadcast is open, and when it closes; and the version that its close retires.
 -- Assumes nothing.
-use mathlib.Core.Path.{_≡_, refl, sym, ap, ap₂, _∙_, subst}
-use Prim.Native.Nat.{ℕ, zero, suc, _+_, _-_, _^_, _≤_, _<_}
+use mathlib.Core.Path.{_≡_, refl, sym, ap, _∙_, subst}
+use Prim.Native.Nat.{ℕ, _-_}
 use mathlib.Core.Bool.{Bool, true, false, cond, not, _&&_, _||_}
-use mathlib.Core.List.{List, [], _∷_}
+use mathlib.Core.List.{[], _∷_}
 use lib.Dec.{eqb, leb, ltb}
-use native.Mathlib.Omega.{arith}
-use borrow.Author.Tests.{eqb-true, not-true, not-false}
+use borrow.Author.Tests.{eqb-true, not-false}
 use Rattle.model.specs.Basics.{among, iff, implies}
-use Rattle.model.specs.Numbers.{isTime, isSet}
-use Rattle.model.specs.Sound.{conflict, cancelPending, sending, failure, partialFailure, active, old, isWorked, isSending, isPurposed, activate, sidesDiffer, newWhole, oldWhole, oneCreated, sidesNeeded, causeFits, cancellerFits, setsApart, retriesFit, startFits, waitingFits, purposeFits, liveFits, liveConfirmed, castInRange, sends}
+use Rattle.model.specs.Numbers.{isTime}
+use Rattle.model.specs.Sound.{conflict, cancelPending, sending, failure, partialFailure, active, old, isWorked, isSending, isPurposed, activate, sidesDiffer, newWhole, oldWhole, sidesNeeded, causeFits, setsApart, retriesFit, liveConfirmed, sends}
 use Rattle.model.specs.Closing.{open?, closeBy, closeTo, closed, retired}
-use Rattle.model.proofs.Lists.{clash, and-l, and-r, both-true}
+use Rattle.model.proofs.Lists.{clash, and-r, both-true, or-l, iff-false, back-equal}
 use Rattle.model.proofs.SoundRows.{CastRanges, cast-ranges, ranges-cast, Ranges, Row}
 use Rattle.model.proofs.SoundSets.{some-zero}
 use Rattle.model.specs.declared.Broadcast.{Broadcast}
@@ -37,10 +36,6 @@ pub record Casting (w : Version) : Type 0 where
 at-sending : (P : ℕ → Type 0) (s : ℕ) → isSending s ≡ true → P sending → P s
 at-sending P s h p = subst P (sym (eqb-true s sending h)) p
 
-one-of : (a b : Bool) → a ≡ true → (a || b) ≡ true
-one-of true b h = refl
-one-of false b h = clash h
-
 waits : (s : ℕ) → not (eqb s 0) ≡ true → ltb 0 s ≡ true
 waits s h = not-not (ltb 0 s) (ap not (sym (some-zero s)) ∙ h)
   where
@@ -55,7 +50,7 @@ row-open w c o = record {
   differ = c .differ;
   new = c .new;
   old = c .old;
-  one = one-of (w .new .created) (w .old .created) (c .created);
+  one = or-l (w .new .created) (w .old .created) (c .created);
   needed =
       at-sending
       (λ (s : ℕ).
@@ -225,7 +220,7 @@ row-closed w c o = go (closeTo (w .cast)) (at-closed (w .cast))
       differ = c .differ;
       new = c .new;
       old = c .old;
-      one = one-of (w .new .created) (w .old .created) (c .created);
+      one = or-l (w .new .created) (w .old .created) (c .created);
       needed = rw (a .no1, a .no2) (need (isPurposed s || eqb s old) (c .created));
       cause = c .cause;
       canceller = rw (c .uncancelled, a .no2);
@@ -256,7 +251,7 @@ settled-status : (s : ℕ) → among s (partialFailure ∷ active ∷ []) ≡ tr
 settled-status s h = go (eqb s 5) refl (eqb s 6) refl
   where
     at : (n : ℕ) → eqb s n ≡ true → (isPurposed n ≡ true) × (eqb n cancelPending ≡ false) → (isPurposed s ≡ true) × (eqb s cancelPending ≡ false)
-    at n e p = subst (λ (j : ℕ). (isPurposed j ≡ true) × (eqb j cancelPending ≡ false)) (sym (eqb-true s n e)) p
+    at n e p = back-equal s n (λ (j : ℕ). (isPurposed j ≡ true) × (eqb j cancelPending ≡ false)) e p
 
     go : (a : Bool) → eqb s 5 ≡ a → (b : Bool) → eqb s 6 ≡ b → (isPurposed s ≡ true) × (eqb s cancelPending ≡ false)
     go true p b q = at 5 p (refl, refl)
@@ -277,11 +272,7 @@ purposed-created x row p =
 
 -- outside cancel-pending nobody is marked as canceller
 pub no-canceller : (x : Version) → Row x → eqb (x .status) cancelPending ≡ false → ltb 0 (x .canceller) ≡ false
-no-canceller x row n = is (ltb 0 (x .canceller)) (rw n at (row .canceller))
-  where
-    is : (b : Bool) → iff b false ≡ true → b ≡ false
-    is true h = clash h
-    is false h = refl
+no-canceller x row n = iff-false (ltb 0 (x .canceller)) (rw n at (row .canceller))
 
 pub row-retired : (stamp : ℕ) (x : Version) → isTime stamp ≡ true → Row x → x .live ≡ true → sends x ≡ false → Row (retired stamp x)
 unfolding retired sidesNeeded setsApart retriesFit

@@ -1,21 +1,21 @@
 -- A fresh version is sound.
 -- Assumes nothing.
-use mathlib.Core.Path.{_≡_, refl, sym, ap, _∙_, subst}
-use Prim.Native.Nat.{ℕ, zero, suc, _+_, _^_, _≤_, _<_}
+use mathlib.Core.Path.{_≡_, refl, sym}
+use Prim.Native.Nat.{ℕ, suc, _<_}
 use mathlib.Core.Bool.{Bool, true, false, cond, not, _&&_, _||_}
 use mathlib.Core.List.{List, [], _∷_}
-use lib.Dec.{eqb, leb, ltb}
+use lib.Dec.{eqb, leb}
 use native.Mathlib.Omega.{arith}
-use borrow.Author.Tests.{eqb-true, eqb-false, ltb-true, le-leb, ne-eqb, not-true}
+use borrow.Author.Tests.{eqb-false, ltb-true, le-leb, ne-eqb, not-true}
 use Rattle.systems.specs.Set.{member}
-use Rattle.model.specs.Basics.{among, iff, implies, every}
+use Rattle.model.specs.Basics.{implies, every}
 use Rattle.model.specs.Numbers.{tenDigits, isNumber, isTime, isProvider}
-use Rattle.model.specs.Retries.{octal, used, noRetries}
+use Rattle.model.specs.Retries.{octal, used}
 use Rattle.model.specs.Sound.{pending, conflict, cancelPending, no, newWhole, oldWhole, causeFits, sidesNeeded, setsApart, apart, retriesFit, retriesInRange, castInRange}
 use Rattle.model.specs.Record.{isCreate, named, twoSides, wellFormed}
-use Rattle.model.specs.Creates.{byNew, newIn, oldIn, newFrom, oldFrom, newAbsent, oldAbsent, newJoined, oldJoined, statusBy, noBroadcast, freshVersion}
+use Rattle.model.specs.Creates.{newFrom, oldFrom, newAbsent, oldAbsent, statusBy, noBroadcast, freshVersion}
 use Rattle.model.specs.Given.{newest}
-use Rattle.model.proofs.Lists.{clash, and-l, and-r, both-true, conj-at}
+use Rattle.model.proofs.Lists.{clash, both-true, conj-at}
 use Rattle.model.proofs.Formed.{Fields, fields}
 use Rattle.model.proofs.SoundRows.{Row, Calm, calm0, calm1, calm-cond}
 use Rattle.model.proofs.SoundAnswers.{time-is}

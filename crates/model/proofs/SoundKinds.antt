@@ -1,50 +1,44 @@
 -- Every kind keeps the rows of its number sound.
 -- Assumes nothing.
-use mathlib.Core.Path.{_≡_, refl, sym, ap, ap₂, _∙_, subst}
-use Prim.Native.Nat.{ℕ, zero, suc, _+_, _^_, _≤_, _<_}
-use mathlib.Core.Bool.{Bool, true, false, cond, not, _&&_, _||_}
-use mathlib.Core.List.{List, [], _∷_, _++_}
+use mathlib.Core.Path.{_≡_, refl, ap, _∙_, subst}
+use Prim.Native.Nat.{ℕ, suc, _≤_, _<_}
+use mathlib.Core.Bool.{Bool, true, false, cond, _&&_, _||_}
+use mathlib.Core.List.{List, [], _∷_}
 use mathlib.Core.Option.{Option, none as nothing, some}
-use lib.Dec.{eqb, leb, ltb}
+use lib.Dec.{eqb}
 use native.Mathlib.Omega.{arith}
-use borrow.Author.Tests.{eqb-true, eqb-false, ltb-true, lt-ltb, leb-true, leb-false, le-leb, not-true, not-false}
-use Rattle.model.specs.Basics.{among, iff, implies, any, first, holds, isNone, All, none, with}
-use Rattle.model.specs.Numbers.{tenDigits, isNumber, isTime, isProvider, isSet, codeOf}
-use Rattle.model.specs.Retries.{used, noRetries}
-use Rattle.model.specs.Books.{Books, soundRetries}
-use Rattle.model.specs.Table.{Change, put, add, strike, change, changes, find, notNamed, others, Rising}
-use Rattle.model.specs.Sound.{pending, conflict, cancelPending, canceled, no, isSending, isWorked, activate, count, live, sends, worked, newWhole, oldWhole, causeFits, sidesNeeded, setsApart, retriesFit, castInRange}
-use Rattle.model.specs.Record.{isCreate, isAnswer, isBroadcast, named, twoSides, wellFormed}
-use Rattle.model.specs.Outcomes.{isDone, judge, orderOf}
+use Rattle.model.specs.Basics.{among, any, isNone, none, with}
+use Rattle.model.specs.Numbers.{isSet, codeOf}
+use Rattle.model.specs.Books.{Books}
+use Rattle.model.specs.Table.{put, add, change, find, others, Rising}
+use Rattle.model.specs.Sound.{pending, conflict, cancelPending, canceled, no, isSending, isWorked, activate, count, live, sends, worked}
+use Rattle.model.specs.Record.{isCreate, isAnswer, isBroadcast, wellFormed}
 use Rattle.model.specs.Selection.{selectedFor, selects}
-use Rattle.model.specs.Standing.{standingOf, standsFor, statusFor, gridRule, unready, lacksStanding, wrongStatus}
-use Rattle.model.specs.Given.{Given, Result, refuse, accept, unless, nameIn, found, rest, newest, workedOne}
-use Rattle.model.specs.Creates.{byNew, newIn, oldIn, newFrom, oldFrom, newAbsent, oldAbsent, newJoined, oldJoined, statusBy, noBroadcast, freshVersion, fits, concurred, createOn, creates}
-use Rattle.model.specs.Changes.{newModified, oldModified, modified, modifies, turns, turned, cancelled, acknowledged, resolved, marks, windowTurned, windowMarked, windowRuns}
-use Rattle.model.specs.Broadcast.{opened, broadcastOf, broadcasts}
+use Rattle.model.specs.Standing.{standingOf}
+use Rattle.model.specs.Given.{accept, nameIn, newest, workedOne}
+use Rattle.model.specs.Creates.{oldIn, oldAbsent, oldJoined, freshVersion, fits, concurred, createOn, creates}
+use Rattle.model.specs.Changes.{newModified, oldModified, modifies, turns, turned, cancelled, acknowledged, resolved, marks, windowTurned, windowMarked, windowRuns}
+use Rattle.model.specs.Broadcast.{opened, broadcasts}
 use Rattle.model.specs.Answers.{answering, awaited, heard, answers}
-use Rattle.model.specs.Refusals.{absent, unlisted, early, busy, busyWith, unawaited, notCurrent, unfit, exhausted, full, refuses, idle, beforeStart}
-use Rattle.model.specs.Step.{purges, manages, whenFound, accepted, rule, Setting}
-use Rattle.model.proofs.Lists.{clash, and-l, and-r, both-true, or-off, all-first, first-true, none-true}
+use Rattle.model.specs.Refusals.{busyWith}
+use Rattle.model.specs.Step.{purges, manages}
+use Rattle.model.proofs.Lists.{clash, or-off, all-first, first-true, or-but, back-equal}
 use Rattle.model.proofs.TableLaws.{find-name}
-use Rattle.model.proofs.Arrivals.{member-none}
-use Rattle.model.proofs.Digits.{used-none}
 use Rattle.model.proofs.Formed.{Fields, fields, answering-named}
-use Rattle.model.proofs.Replies.{heard-id, done-is}
-use Rattle.model.proofs.SoundRows.{CastRanges, ranges-cast, Row, Calm, calm0, calm1, calm-cond, calm-worked}
-use Rattle.model.proofs.SoundSets.{every-all, set-none, set-mask, Apart}
+use Rattle.model.proofs.Replies.{heard-id}
+use Rattle.model.proofs.SoundRows.{Row, Calm, calm0, calm1, calm-cond, calm-worked}
+use Rattle.model.proofs.SoundSets.{set-mask}
 use Rattle.model.proofs.SoundCasts.{Casting}
-use Rattle.model.proofs.SoundAnswers.{time-is, of-parted, is-sending, casting-heard}
-use Rattle.model.proofs.SoundOpened.{Allowed, none-used, purpose-lasts, casting-opened}
-use Rattle.model.proofs.SoundSides.{new-fields, old-fields, row-concurred, row-new-modified, row-old-modified, row-cancelled, row-acknowledged, row-resolved, window-status, row-window-turned, row-window-marked, open-status, status-is}
+use Rattle.model.proofs.SoundAnswers.{time-is, is-sending, casting-heard}
+use Rattle.model.proofs.SoundOpened.{Allowed, purpose-lasts, casting-opened, status-of}
+use Rattle.model.proofs.SoundSides.{row-concurred, row-new-modified, row-old-modified, row-cancelled, row-acknowledged, row-resolved, window-status, row-window-turned, row-window-marked, open-status}
 use Rattle.model.proofs.SoundFresh.{row-fresh}
-use Rattle.model.proofs.SoundLines.{Line, one, all-find, found-self, count-cons, count-found, count-put, count-strike, count-add, first-none, any-none, line-put}
-use Rattle.model.proofs.SoundLaws.{Brings, Keeps, Ground, keeps-refuse, keeps-if, keeps-found, keeps-settled}
+use Rattle.model.proofs.SoundLines.{Line, one, all-find, found-self, count-found, count-put, count-strike, count-add, first-none, any-none, line-put}
+use Rattle.model.proofs.SoundLaws.{Keeps, Ground, keeps-if, keeps-settled}
 use Rattle.model.specs.declared.Id.{Id}
 use Rattle.model.specs.declared.Event.{Event}
 use Rattle.model.specs.declared.Version.{Version}
 use Rattle.model.specs.declared.Message.{Message}
-use Rattle.model.specs.declared.Outcome.{Outcome}
 
 one-le : (b : Bool) → one b ≤ 1
 one-le true = omega arith
@@ -63,7 +57,7 @@ calm-put k r v w ms s line h n l o q row = record {
 le-one : {a b : Bool} → a ≡ b → one a ≤ one b
 le-one {a} {b} q = rw q (omega arith)
 
-opened-id : (s : ℕ) (e : Event) (v : Version) → opened s e v .id ≡ v .id
+pub opened-id : (s : ℕ) (e : Event) (v : Version) → opened s e v .id ≡ v .id
 unfolding opened
 opened-id s e v = refl
 
@@ -123,9 +117,6 @@ module _ (lineOf : ℕ → ℕ) (e : Event) (formed : wellFormed e ≡ true) (r 
     keeps-calm : (w : Version) (ms : List Message) → w .id ≡ v .id → w .live ≡ v .live → worked v ≡ true → sends w ≡ false → Row w → Keeps r (accept ms (put w ∷ []))
     keeps-calm w ms n l o q x = calm-put K r v w ms (g .rising) (g .line) h (n ∙ find-name K r v h) l o q x
 
-    by-kind : (n : ℕ) → eqb (e .kind) n ≡ true → statusFor n (v .status) ≡ true
-    by-kind n q = subst (λ (j : ℕ). statusFor j (v .status) ≡ true) (eqb-true (e .kind) n q) (al .fitting)
-
     open-worked : among (v .status) (pending ∷ conflict ∷ []) ≡ true → worked v ≡ true
     open-worked q = open-status e formed v row al q .0
 
@@ -140,14 +131,14 @@ module _ (lineOf : ℕ → ℕ) (e : Event) (formed : wellFormed e ≡ true) (r 
         calm-open p = calm-worked (v .status) (open-worked p) .no3
 
         go : (a : Bool) → eqb (e .kind) 3 ≡ a → (b : Bool) → eqb (e .kind) 4 ≡ b → Keeps r (modifies e v)
-        go true p b x = rw p (keeps-calm (newModified e v) _ refl refl (open-worked (by-kind 3 p)) (calm-open (by-kind 3 p)) (row-new-modified e formed v row al p))
-        go false p true x = rw p (keeps-calm (oldModified e v) _ refl refl (open-worked (by-kind 4 x)) (not-sending _ (calm-cond (eqb (e .mark) no) calm1 calm0)) (row-old-modified e formed v row al x))
+        go true p b x = rw p (keeps-calm (newModified e v) _ refl refl (open-worked (status-of e v al 3 p)) (calm-open (status-of e v al 3 p)) (row-new-modified e formed v row al p))
+        go false p true x = rw p (keeps-calm (oldModified e v) _ refl refl (open-worked (status-of e v al 4 x)) (not-sending _ (calm-cond (eqb (e .mark) no) calm1 calm0)) (row-old-modified e formed v row al x))
         go false p false x = clash (rw (p, x) at q)
 
     keeps-cancelled : eqb (e .kind) 6 ≡ true → Keeps r (turns (cancelled e v))
     unfolding cancelled
     keeps-cancelled q =
-        keeps-calm (cancelled e v) _ (id-of (v .new .created && v .old .created)) (live-of (v .new .created && v .old .created)) (open-worked (by-kind 6 q))
+        keeps-calm (cancelled e v) _ (id-of (v .new .created && v .old .created)) (live-of (v .new .created && v .old .created)) (open-worked (status-of e v al 6 q))
         (calm-of (v .new .created && v .old .created)) (row-cancelled e formed v row al q)
       where
         id-of : (b : Bool) → cond b (turned e v cancelPending (suc (standingOf e v)) (v .window)) (turned e v canceled (v .canceller) (v .window)) .id ≡ v .id
@@ -165,12 +156,12 @@ module _ (lineOf : ℕ → ℕ) (e : Event) (formed : wellFormed e ≡ true) (r 
     keeps-acknowledged : eqb (e .kind) 7 ≡ true → Keeps r (turns (acknowledged e v))
     unfolding acknowledged
     keeps-acknowledged q =
-        keeps-calm (acknowledged e v) _ refl refl (status-is e formed v row al 2 (λ (s : ℕ). isWorked s ≡ true) (by-kind 7 q) refl) refl (row-acknowledged e formed v row al q)
+        keeps-calm (acknowledged e v) _ refl refl (back-equal (v .status) 2 (λ (s : ℕ). isWorked s ≡ true) (status-of e v al 7 q) refl) refl (row-acknowledged e formed v row al q)
 
     keeps-resolved : eqb (e .kind) 8 ≡ true → Keeps r (turns (resolved e v))
     unfolding resolved
     keeps-resolved q =
-        keeps-calm (resolved e v) _ refl refl (status-is e formed v row al 1 (λ (s : ℕ). isWorked s ≡ true) (by-kind 8 q) refl) refl (row-resolved e formed v row al q)
+        keeps-calm (resolved e v) _ refl refl (back-equal (v .status) 1 (λ (s : ℕ). isWorked s ≡ true) (status-of e v al 8 q) refl) refl (row-resolved e formed v row al q)
 
     keeps-window : eqb (e .kind) 13 ≡ true → Keeps r (windowRuns e v)
     unfolding windowRuns windowMarked windowTurned
@@ -300,9 +291,4 @@ module _ (lineOf : ℕ → ℕ) (e : Event) (formed : wellFormed e ≡ true) (r 
       line-heard = line-put K r v (g .rising) (g .line) h W same (le-one (heard-live most e v)) (le-one (heard-sends most e v)) (le-one (heard-worked most e v))
 
       lasts : eqb (W .cast .purpose) activate ≡ false → v .live ≡ true
-      lasts z = is (v .live) (eqb (W .cast .purpose) activate) (subst (λ (x : Bool). (x || eqb (W .cast .purpose) activate) ≡ true) (heard-live most e v) (casting .lasting)) z
-        where
-          is : (a b : Bool) → (a || b) ≡ true → b ≡ false → a ≡ true
-          is true b q z = refl
-          is false true q z = clash (sym z)
-          is false false q z = q
+      lasts z = or-but (v .live) (eqb (W .cast .purpose) activate) (subst (λ (x : Bool). (x || eqb (W .cast .purpose) activate) ≡ true) (heard-live most e v) (casting .lasting)) z

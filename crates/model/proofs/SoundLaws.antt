@@ -1,9 +1,9 @@
 -- Soundness is kept by any rule whose answers keep it on the rows of the event's number.
 -- Assumes nothing.
-use mathlib.Core.Path.{_≡_, refl, sym, ap, _∙_, subst}
-use Prim.Native.Nat.{ℕ, suc, _+_, _≤_, Ordering, Ordering·lt, Ordering·eq, Ordering·gt}
+use mathlib.Core.Path.{_≡_, refl, subst}
+use Prim.Native.Nat.{ℕ, _≤_, Ordering, Ordering·lt, Ordering·eq, Ordering·gt}
 use mathlib.Core.Bool.{Bool, true, false, cond, _&&_}
-use mathlib.Core.List.{List, [], _∷_, _++_, map}
+use mathlib.Core.List.{List, [], _∷_, map}
 use mathlib.Core.Option.{Option, none as nothing, some}
 use lib.Dec.{eqb, ltb}
 use lib.ListN.{length}
@@ -11,17 +11,15 @@ use native.Mathlib.Omega.{arith}
 use borrow.Author.Tests.{eqb-true, eqb-false}
 use Rattle.model.specs.Basics.{keep, All, none, with}
 use Rattle.model.specs.Table.{order, Change, put, add, strike, nameOf, miss, hit, change, changes, find, notNamed, others, rowsOf, Rising}
-use Rattle.model.specs.Numbers.{isTime}
 use Rattle.model.specs.Sound.{live, sends, count}
-use Rattle.model.specs.Outcomes.{isDone}
-use Rattle.model.specs.Given.{Result, refuse, accept, unless}
+use Rattle.model.specs.Given.{Result, refuse, accept}
 use Rattle.model.specs.Closing.{open?, closed, retired, retiring, retires, takesOver, settled, settles}
 use Rattle.model.specs.Sound.{activate}
-use Rattle.model.specs.Step.{Step, after, whenFound}
+use Rattle.model.specs.Step.{after, whenFound}
 use Rattle.model.proofs.Lists.{all-keep, all-map, all-both, all-cond, passed}
 use Rattle.model.proofs.TableLaws.{rising-changes, rising-part}
-use Rattle.model.proofs.Apart.{Rule, stepBy, Near, Rows, Local, rows-rows, rows-out, rows-in, fine}
-use Rattle.model.proofs.SoundRows.{Row, Ranges}
+use Rattle.model.proofs.Apart.{Rule, stepBy, Rows, Local, rows-rows, rows-out, rows-in, fine}
+use Rattle.model.proofs.SoundRows.{Row}
 use Rattle.model.proofs.SoundCasts.{Casting, row-open, row-closed, row-retired, at-closed}
 use Rattle.model.proofs.SoundLines.{Line, one, none-counted, line-put, line-retire}
 use Rattle.model.specs.declared.Id.{Id}

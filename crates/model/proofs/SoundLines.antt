@@ -1,16 +1,16 @@
 -- The rows of one number: how many are live, sending and worked, and how changes move these counts.
 -- Assumes nothing.
 use mathlib.Core.Path.{_≡_, refl, sym, ap, ap₂, _∙_, subst}
-use Prim.Native.Nat.{ℕ, suc, _+_, _≤_, Ordering, Ordering·lt, Ordering·eq, Ordering·gt}
-use mathlib.Core.Bool.{Bool, true, false, cond, _&&_, _||_}
+use Prim.Native.Nat.{ℕ, _+_, _≤_, Ordering, Ordering·lt, Ordering·eq, Ordering·gt}
+use mathlib.Core.Bool.{Bool, true, false, cond}
 use mathlib.Core.List.{List, [], _∷_, map}
-use mathlib.Core.Option.{Option, none as nothing, some}
+use mathlib.Core.Option.{none as nothing, some}
 use lib.ListN.{length}
 use native.Mathlib.Omega.{arith}
 use Rattle.model.specs.Basics.{keep, first, any, All, none, with}
-use Rattle.model.specs.Table.{order, Change, put, add, strike, change, changes, find, notNamed, others, Under, Rising}
+use Rattle.model.specs.Table.{order, put, add, strike, change, changes, find, notNamed, others, Under, Rising}
 use Rattle.model.specs.Sound.{count, live, sends, worked}
-use Rattle.model.specs.Closing.{retired, retiring}
+use Rattle.model.specs.Closing.{retired}
 use Rattle.model.proofs.Lists.{clash, all-keep, all-both, head-of, passed}
 use Rattle.model.proofs.Order.{order-self, order-eq, order-gt, order-lt}
 use Rattle.model.proofs.TableLaws.{under-tail, find-put, find-other, part-out, rising-change}

@@ -1,21 +1,21 @@
 -- An accepted event of kind 5, 9, 10 or 14 puts its version in a broadcast.
 -- Assumes nothing.
-use mathlib.Core.Path.{_≡_, refl, sym, ap, ap₂, _∙_, subst}
-use Prim.Native.Nat.{ℕ, zero, suc, _+_, _^_, _≤_, _<_}
-use mathlib.Core.Bool.{Bool, true, false, cond, not, _&&_, _||_}
-use mathlib.Core.List.{List, [], _∷_}
+use mathlib.Core.Path.{_≡_, refl, sym, ap, _∙_}
+use Prim.Native.Nat.{ℕ, _^_, _≤_}
+use mathlib.Core.Bool.{Bool, true, false, cond, not, _&&_, _||_, or-true, and-false}
+use mathlib.Core.List.{[], _∷_}
 use lib.Dec.{eqb, leb, ltb}
 use native.Mathlib.Omega.{arith}
-use borrow.Author.Tests.{eqb-true, lt-ltb, eq-eqb}
+use borrow.Author.Tests.{eqb-true, lt-ltb}
 use Rattle.systems.specs.Set.{member, meet}
-use Rattle.model.specs.Basics.{among, iff, implies, every}
+use Rattle.model.specs.Basics.{among, iff, implies}
 use Rattle.model.specs.Numbers.{tenDigits, isTime, isProvider, isSet}
 use Rattle.model.specs.Retries.{used, noRetries}
-use Rattle.model.specs.Sound.{pending, cancelPending, failure, partialFailure, active, isPurposed, isSending, activate, modify, disconnect, newWhole, setsApart, retriesFit, retriesInRange, liveConfirmed, sidesNeeded}
-use Rattle.model.specs.Record.{isBroadcast, named, unused, modifiesActive, wellFormed}
+use Rattle.model.specs.Sound.{pending, cancelPending, failure, partialFailure, active, isPurposed, isSending, activate, modify, disconnect, newWhole, retriesFit, retriesInRange}
+use Rattle.model.specs.Record.{isBroadcast, named, unused, wellFormed}
 use Rattle.model.specs.Standing.{standingOf, standsFor, statusFor}
 use Rattle.model.specs.Broadcast.{resends, purposeFor, askedFor, newFor, opened}
-use Rattle.model.proofs.Lists.{clash, and-l, and-r, both-true, conj-at}
+use Rattle.model.proofs.Lists.{clash, and-l, and-r, both-true, conj-at, or-but, iff-true, iff-false, at-equal, back-equal}
 use Rattle.model.proofs.Arrivals.{member-none}
 use Rattle.model.proofs.Digits.{used-none}
 use Rattle.model.proofs.Formed.{Fields, fields, at-kind}
@@ -23,7 +23,6 @@ use Rattle.model.proofs.SoundRows.{CastRanges, cast-ranges, ranges-cast
 use Rattle.model.proofs.SoundSets.{every-all, set-none, set-meet, Apart, meet-in, meet-none}
 use Rattle.model.proofs.SoundCasts.{Casting, purposed-created, no-canceller}
 use Rattle.model.proofs.SoundAnswers.{time-is, parted-of, of-parted}
-use Rattle.model.specs.declared.NewSide.{NewSide}
 use Rattle.model.specs.declared.Event.{Event}
 use Rattle.model.specs.declared.Version.{Version}
 
@@ -48,14 +47,6 @@ stands-old e v h = go (eqb (e .sender) 0) (v .new .created && eqb (e .sender) (v
     go false true false d q = absurd (omega arith)
     go false false false d q = absurd (omega arith)
 
-and-none : (b : Bool) → (b && false) ≡ false
-and-none true = refl
-and-none false = refl
-
-or-one : (b : Bool) → (b || true) ≡ true
-or-one true = refl
-or-one false = refl
-
 pub none-used : retriesInRange noRetries ≡ true
 unfolding retriesInRange
 none-used = refl
@@ -65,36 +56,22 @@ pub record Allowed (e : Event) (v : Version) : Type 0 where
   pub stands : standsFor (e .kind) (standingOf e v) ≡ true
   pub fitting : statusFor (e .kind) (v .status) ≡ true
 
+module _ (e : Event) (v : Version) (al : Allowed e v) where
+  pub status-of : (n : ℕ) → eqb (e .kind) n ≡ true → statusFor n (v .status) ≡ true
+  status-of n q = at-equal (e .kind) n (λ (k : ℕ). statusFor k (v .status) ≡ true) q (al .fitting)
+
+  pub stands-of : (n : ℕ) → eqb (e .kind) n ≡ true → standsFor n (standingOf e v) ≡ true
+  stands-of n q = at-equal (e .kind) n (λ (k : ℕ). standsFor k (standingOf e v) ≡ true) q (al .stands)
+
 module _ (selected : ℕ) (set : isSet selected ≡ true) (e : Event) (formed : wellFormed e ≡ true) (v : Version) (row : Row v)
     (k : isBroadcast (e .kind) ≡ true) (al : Allowed e v) where
-  status-at : (n : ℕ) → eqb (e .kind) n ≡ true → statusFor n (v .status) ≡ true
-  status-at n q = subst (λ (j : ℕ). statusFor j (v .status) ≡ true) (eqb-true (e .kind) n q) (al .fitting)
-
-  stands-at : (n : ℕ) → eqb (e .kind) n ≡ true → standsFor n (standingOf e v) ≡ true
-  stands-at n q = subst (λ (j : ℕ). standsFor j (standingOf e v) ≡ true) (eqb-true (e .kind) n q) (al .stands)
-
-  -- what follows of a status n
-  at : (n : ℕ) (P : ℕ → Type 0) → eqb (v .status) n ≡ true → P (v .status) → P n
-  at n P q h = subst P (eqb-true (v .status) n q) h
-
-  back : (n : ℕ) (P : ℕ → Type 0) → eqb (v .status) n ≡ true → P n → P (v .status)
-  back n P q h = subst P (sym (eqb-true (v .status) n q)) h
-
   live-active : eqb (v .status) active ≡ true → v .live ≡ true
   live-active q =
-      is (v .live) (at 6 (λ (s : ℕ). cond (isSending s) (v .live || eqb (v .cast .purpose) activate) (iff (v .live) (among s (partialFailure ∷ active ∷ []))) ≡ true) q (row .live))
-    where
-      is : (b : Bool) → iff b true ≡ true → b ≡ true
-      is true h = refl
-      is false h = h
+      iff-true (v .live) (at-equal (v .status) 6 (λ (s : ℕ). cond (isSending s) (v .live || eqb (v .cast .purpose) activate) (iff (v .live) (among s (partialFailure ∷ active ∷ []))) ≡ true) q (row .live))
 
   not-live : eqb (v .status) pending ≡ true → v .live ≡ false
   not-live q =
-      is (v .live) (at 0 (λ (s : ℕ). cond (isSending s) (v .live || eqb (v .cast .purpose) activate) (iff (v .live) (among s (partialFailure ∷ active ∷ []))) ≡ true) q (row .live))
-    where
-      is : (b : Bool) → iff b false ≡ true → b ≡ false
-      is true h = clash h
-      is false h = refl
+      iff-false (v .live) (at-equal (v .status) 0 (λ (s : ℕ). cond (isSending s) (v .live || eqb (v .cast .purpose) activate) (iff (v .live) (among s (partialFailure ∷ active ∷ []))) ≡ true) q (row .live))
 
   -- what the purpose, the confirmed and the asked must be
   record Aim (purpose confirmed waiting : ℕ) : Type 0 where
@@ -116,13 +93,13 @@ module _ (selected : ℕ) (set : isSet selected ≡ true) (e : Event) (formed : 
   aim-activate q c = record {
     small = refl;
     some = refl;
-    lasting = or-one (v .live);
+    lasting = or-true (v .live);
     conf = set-none;
     wait = set;
     cw = nobody-apart selected;
     confirms = rw (not-live q);
     created = c;
-    uncancelled = back 0 (λ (s : ℕ). eqb s cancelPending ≡ false) q refl;
+    uncancelled = back-equal (v .status) 0 (λ (s : ℕ). eqb s cancelPending ≡ false) q refl;
   }
 
   -- 9, 10: active
@@ -134,9 +111,9 @@ module _ (selected : ℕ) (set : isSet selected ≡ true) (e : Event) (formed : 
     conf = set-none;
     wait = set;
     cw = nobody-apart selected;
-    confirms = rw (other, and-none (v .live));
-    created = purposed-created v row (back 6 (λ (s : ℕ). isPurposed s ≡ true) q refl);
-    uncancelled = back 6 (λ (s : ℕ). eqb s cancelPending ≡ false) q refl;
+    confirms = rw (other, and-false (v .live));
+    created = purposed-created v row (back-equal (v .status) 6 (λ (s : ℕ). isPurposed s ≡ true) q refl);
+    uncancelled = back-equal (v .status) 6 (λ (s : ℕ). eqb s cancelPending ≡ false) q refl;
   }
 
   -- 14: failed, partial-failure, active
@@ -150,15 +127,15 @@ module _ (selected : ℕ) (set : isSet selected ≡ true) (e : Event) (formed : 
     where
       aims : (n : ℕ) → eqb (v .status) n ≡ true → implies (among n (failure ∷ partialFailure ∷ [])) (eqb (v .cast .purpose) activate) ≡ true
       aims n q =
-          at n (λ (s : ℕ). implies (among s (failure ∷ partialFailure ∷ [])) (eqb (v .cast .purpose) activate) ≡ true) q
+          at-equal (v .status) n (λ (s : ℕ). implies (among s (failure ∷ partialFailure ∷ [])) (eqb (v .cast .purpose) activate) ≡ true) q
           (and-r (iff (ltb 0 (v .cast .purpose)) (isPurposed (v .status))) _ (row .purpose))
 
       by : (n : ℕ) → eqb (v .status) n ≡ true → isPurposed n ≡ true → eqb n cancelPending ≡ false → (v .live || eqb (v .cast .purpose) activate) ≡ true → Resent
-      by n q p c l = record { purposed = back n (λ (s : ℕ). isPurposed s ≡ true) q p; lasting = l; uncancelled = back n (λ (s : ℕ). eqb s cancelPending ≡ false) q c }
+      by n q p c l = record { purposed = back-equal (v .status) n (λ (s : ℕ). isPurposed s ≡ true) q p; lasting = l; uncancelled = back-equal (v .status) n (λ (s : ℕ). eqb s cancelPending ≡ false) q c }
 
       go : (a : Bool) → eqb (v .status) 4 ≡ a → (b : Bool) → eqb (v .status) 5 ≡ b → (c : Bool) → eqb (v .status) 6 ≡ c → Resent
-      go true p b q c r = by 4 p refl refl (ap (λ (x : Bool). v .live || x) (aims 4 p) ∙ or-one (v .live))
-      go false p true q c r = by 5 q refl refl (ap (λ (x : Bool). v .live || x) (aims 5 q) ∙ or-one (v .live))
+      go true p b q c r = by 4 p refl refl (ap (λ (x : Bool). v .live || x) (aims 4 p) ∙ or-true (v .live))
+      go false p true q c r = by 5 q refl refl (ap (λ (x : Bool). v .live || x) (aims 5 q) ∙ or-true (v .live))
       go false p false q true r = by 6 r refl refl (rw (live-active r))
       go false p false q false r = clash (rw (p, q, r) at h)
 
@@ -166,7 +143,7 @@ module _ (selected : ℕ) (set : isSet selected ≡ true) (e : Event) (formed : 
       → Aim (v .cast .purpose) (v .cast .confirmed) (meet (v .cast .failed) selected)
   aim-resend h = record {
     small = r .purpose;
-    some = is (ltb 0 (v .cast .purpose)) (rw (s .purposed) at (and-l (iff (ltb 0 (v .cast .purpose)) (isPurposed (v .status))) _ (row .purpose)));
+    some = iff-true (ltb 0 (v .cast .purpose)) (rw (s .purposed) at (and-l (iff (ltb 0 (v .cast .purpose)) (isPurposed (v .status))) _ (row .purpose)));
     lasting = s .lasting;
     conf = r .confirmed;
     wait = both-set;
@@ -182,10 +159,6 @@ module _ (selected : ℕ) (set : isSet selected ≡ true) (e : Event) (formed : 
       r : CastRanges (v .cast)
       r = cast-ranges (v .cast) (row .ranges .cast)
 
-      is : (b : Bool) → iff b true ≡ true → b ≡ true
-      is true h = refl
-      is false h = h
-
       both-set : isSet (meet (v .cast .failed) selected) ≡ true
       both-set = set-meet (v .cast .failed) selected
 
@@ -195,15 +168,12 @@ module _ (selected : ℕ) (set : isSet selected ≡ true) (e : Event) (formed : 
           clash (sym (parted-of (v .cast) (row .apart) .cf .out p l m q) ∙ meet-in (v .cast .failed) selected p l m e)
       go p l m q false e = e
 
-      and-two : (a b : Bool) → (a && b) ≡ true → b ≡ true
-      and-two a b e = and-r a b e
-
       more : (x y z : Bool) → eqb (v .cast .failed) 0 ≡ z → implies x (y || (eqb (v .cast .waiting) 0 && z)) ≡ true
           → implies x (y || (eqb (meet (v .cast .failed) selected) 0 && true)) ≡ true
       more false y z e q = refl
       more true true z e q = refl
       more true false z e q =
-          let f : z ≡ true = and-two (eqb (v .cast .waiting) 0) z q in
+          let f : z ≡ true = and-r (eqb (v .cast .waiting) 0) z q in
           let n : v .cast .failed ≡ 0 = eqb-true (v .cast .failed) 0 (e ∙ f) in
           rw (n, meet-none selected)
 
@@ -213,10 +183,10 @@ module _ (selected : ℕ) (set : isSet selected ≡ true) (e : Event) (formed : 
     where
       go : (a : Bool) → eqb (e .kind) 14 ≡ a → (b : Bool) → eqb (e .kind) 5 ≡ b → (c : Bool) → eqb (e .kind) 9 ≡ c → (d : Bool) → eqb (e .kind) 10 ≡ d
           → Aim (cond a (v .cast .purpose) (cond b activate (cond c modify disconnect))) (cond a (v .cast .confirmed) 0) (cond a (meet (v .cast .failed) selected) selected)
-      go true p b q c x d y = aim-resend (status-at 14 p)
-      go false p true q c x d y = aim-activate (status-at 5 q) (stands-new e v (eqb-true (standingOf e v) 0 (stands-at 5 q)))
-      go false p false q true x d y = aim-other modify refl refl refl (status-at 9 x)
-      go false p false q false x true y = aim-other disconnect refl refl refl (status-at 10 y)
+      go true p b q c x d y = aim-resend (status-of e v al 14 p)
+      go false p true q c x d y = aim-activate (status-of e v al 5 q) (stands-new e v (eqb-true (standingOf e v) 0 (stands-of e v al 5 q)))
+      go false p false q true x d y = aim-other modify refl refl refl (status-of e v al 9 x)
+      go false p false q false x true y = aim-other disconnect refl refl refl (status-of e v al 10 y)
       go false p false q false x false y = clash (rw (p, q, x, y) at k)
 
   -- 9 replaces the LRN of a side that has created
@@ -248,12 +218,7 @@ module _ (selected : ℕ) (set : isSet selected ≡ true) (e : Event) (formed : 
 
   pub purpose-lasts : eqb (opened selected e v .cast .purpose) activate ≡ false → v .live ≡ true
   unfolding opened
-  purpose-lasts h = is (v .live) (eqb (purposeFor e v) activate) (aim .lasting) h
-    where
-      is : (a b : Bool) → (a || b) ≡ true → b ≡ false → a ≡ true
-      is true b q z = refl
-      is false true q z = clash (sym z)
-      is false false q z = q
+  purpose-lasts h = or-but (v .live) (eqb (purposeFor e v) activate) (aim .lasting) h
 
   pub casting-opened : Casting (opened selected e v)
   unfolding opened retriesFit
@@ -285,7 +250,7 @@ module _ (selected : ℕ) (set : isSet selected ≡ true) (e : Event) (formed : 
         sending = refl;
         uncancelled = no-canceller v row (aim .uncancelled);
         apart = of-parted (opened selected e v .cast) (record { cw = aim .cw; cf = none-in _; wf = none-in _ });
-        retries = every-all (λ (p : ℕ). member (askedFor selected e v) p || eqb (used noRetries p) 0) 63 (λ p l m. rw (used-none p) (or-one (member (askedFor selected e v) p)));
+        retries = every-all (λ (p : ℕ). member (askedFor selected e v) p || eqb (used noRetries p) 0) 63 (λ p l m. rw (used-none p) (or-true (member (askedFor selected e v) p)));
         start = lt-ltb 0 (e .time) (f .timed);
         aimed = aim .some;
         lasting = aim .lasting;

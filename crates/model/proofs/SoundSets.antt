@@ -1,15 +1,15 @@
 -- Sets of systems: when one is in range, and when two are apart, as facts of their members.
 -- Assumes nothing.
 use mathlib.Core.Path.{_≡_, refl, sym, ap, _∙_, subst}
-use Prim.Native.Nat.{ℕ, zero, suc, _+_, _-_, _*_, _/_, _%_, _^_, _≤_, _<_}
-use mathlib.Core.Bool.{Bool, true, false, cond, not, _&&_, _||_}
-use lib.Dec.{eqb, leb, ltb}
+use Prim.Native.Nat.{ℕ, zero, suc, _+_, _-_, _%_, _^_, _≤_, _<_}
+use mathlib.Core.Bool.{Bool, true, false, cond, not, _&&_}
+use lib.Dec.{eqb, ltb}
 use native.Mathlib.Nat.{pow-suc, add-mul-mod-self-right, add-zero}
 use native.Mathlib.Omega.{arith}
-use borrow.Author.Tests.{eqb-true, eqb-false, eq-eqb, ltb-true, ltb-false, lt-ltb, le-ltb, leb-true, le-leb, not-true, not-false}
+use borrow.Author.Tests.{eqb-true, eqb-false, eq-eqb, ltb-true, ltb-false, lt-ltb}
 use lib.Pow.{pow-pos}
 use Rattle.systems.specs.Set.{member, maskOf, meet}
-use Rattle.systems.specs.Laws.{in-le, out-fits, mask-lt, mask-member, with-same, with-other, without-same, without-other}
+use Rattle.systems.specs.Laws.{in-le, out-fits, mask-lt, mask-member, with-other, without-same, without-other}
 use Rattle.model.specs.Basics.{every}
 use Rattle.model.specs.Numbers.{isSet}
 use Rattle.model.specs.Sound.{apart}

@@ -1,31 +1,26 @@
 -- Outside a broadcast: what creates, modifies, cancels, resolves and windows make of a version is sound.
 -- Assumes nothing.
-use mathlib.Core.Path.{_≡_, refl, sym, ap, ap₂, _∙_, subst}
-use Prim.Native.Nat.{ℕ, zero, suc, _+_, _^_, _≤_, _<_}
-use mathlib.Core.Bool.{Bool, true, false, cond, not, _&&_, _||_}
+use mathlib.Core.Path.{_≡_, refl}
+use Prim.Native.Nat.{ℕ, suc, _≤_}
+use mathlib.Core.Bool.{Bool, true, false, cond, not, _&&_, _||_, or-true}
 use mathlib.Core.List.{List, [], _∷_}
 use lib.Dec.{eqb, leb, ltb}
 use lib.ListN.{getD}
 use native.Mathlib.Omega.{arith}
-use borrow.Author.Tests.{eqb-true, eqb-false, ltb-true, lt-ltb, leb-true, le-leb, not-true}
-use Rattle.model.specs.Basics.{among, iff, implies, every}
-use Rattle.model.specs.Numbers.{tenDigits, isNumber, isTime, isProvider}
-use Rattle.model.specs.Retries.{used, noRetries}
-use Rattle.model.specs.Sound.{pending, conflict, cancelPending, canceled, yes, no, isWorked, newWhole, oldWhole, sidesNeeded, causeFits, setsApart, retriesFit, retriesInRange, castInRange}
-use Rattle.model.specs.Record.{isCreate, named, unused, twoSides, authorizes, newCreates, oldCreates, newModifies, oldModifies, wellFormed}
-use Rattle.model.specs.Standing.{standingOf, standsFor, statusFor}
-use Rattle.model.specs.Creates.{byNew, newIn, oldIn, newFrom, oldFrom, newAbsent, oldAbsent, newJoined, oldJoined, statusBy, noBroadcast, freshVersion, fits, concurred}
-use Rattle.model.specs.Changes.{newModified, oldModified, modified, turned, cancelled, acknowledged, resolved, windowTurned, windowMarked}
-use Rattle.model.specs.Given.{newest}
-use Rattle.model.proofs.Lists.{clash, and-l, and-r, both-true, conj-at}
-use Rattle.model.proofs.Arrivals.{member-none}
-use Rattle.model.proofs.Digits.{used-none}
+use borrow.Author.Tests.{eqb-true, ltb-true, lt-ltb, leb-true, le-leb, not-true}
+use Rattle.model.specs.Basics.{among, iff, implies}
+use Rattle.model.specs.Numbers.{tenDigits, isTime}
+use Rattle.model.specs.Sound.{pending, conflict, cancelPending, canceled, yes, no, isWorked, newWhole, oldWhole, sidesNeeded, causeFits}
+use Rattle.model.specs.Record.{isCreate, named, unused, twoSides, authorizes, wellFormed}
+use Rattle.model.specs.Standing.{standingOf}
+use Rattle.model.specs.Creates.{byNew, newIn, oldIn, newFrom, oldFrom, statusBy, fits, concurred}
+use Rattle.model.specs.Changes.{newModified, oldModified, turned, cancelled, acknowledged, resolved, windowTurned, windowMarked}
+use Rattle.model.proofs.Lists.{clash, and-l, and-r, both-true, conj-at, back-equal}
 use Rattle.model.proofs.Formed.{Fields, fields, at-kind}
-use Rattle.model.proofs.SoundRows.{CastRanges, ranges-cast, Row, Calm, calm0, calm1, calm2, calm8, calm-cond, calm-worked, Sided, restated, row-calm}
-use Rattle.model.proofs.SoundSets.{every-all, set-none, Apart}
+use Rattle.model.proofs.SoundRows.{Row, Calm, calm0, calm1, calm2, calm8, calm-cond, calm-worked, Sided, restated, row-calm}
 use Rattle.model.proofs.SoundCasts.{no-canceller}
-use Rattle.model.proofs.SoundAnswers.{time-is, of-parted}
-use Rattle.model.proofs.SoundOpened.{stands-new, stands-old, Allowed, none-used}
+use Rattle.model.proofs.SoundAnswers.{time-is}
+use Rattle.model.proofs.SoundOpened.{stands-new, stands-old, Allowed, status-of, stands-of}
 use Rattle.model.specs.declared.NewSide.{NewSide}
 use Rattle.model.specs.declared.OldSide.{OldSide}
 use Rattle.model.specs.declared.Event.{Event}
@@ -106,10 +101,6 @@ new-fields e formed k = conj-at (newSays e) (at-kind e formed 1 (eqb-true (e .ki
 pub old-fields : (e : Event) → wellFormed e ≡ true → eqb (e .kind) 2 ≡ true → (i : ℕ) → getD (oldSays e) i true ≡ true
 old-fields e formed k = conj-at (oldSays e) (at-kind e formed 2 (eqb-true (e .kind) 2 k))
 
-or-one : (b : Bool) → (b || true) ≡ true
-or-one true = refl
-or-one false = refl
-
 -- ---- an event of a kind that may come, on a worked version
 module _ (e : Event) (formed : wellFormed e ≡ true) (v : Version) (row : Row v) where
   f : Fields e
@@ -125,33 +116,24 @@ module _ (e : Event) (formed : wellFormed e ≡ true) (v : Version) (row : Row v
       row-calm v s (e .time) (v .new) (v .old) c x row (calm-worked (v .status) w) q time refl refl (sided v row s c a b l i)
 
   module _ (al : Allowed e v) where
-    status-of : (n : ℕ) → eqb (e .kind) n ≡ true → statusFor n (v .status) ≡ true
-    status-of n q = subst (λ (j : ℕ). statusFor j (v .status) ≡ true) (eqb-true (e .kind) n q) (al .fitting)
-
-    stands-of : (n : ℕ) → eqb (e .kind) n ≡ true → standsFor n (standingOf e v) ≡ true
-    stands-of n q = subst (λ (j : ℕ). standsFor j (standingOf e v) ≡ true) (eqb-true (e .kind) n q) (al .stands)
-
     -- pending or conflict
     pub open-status : among (v .status) (pending ∷ conflict ∷ []) ≡ true → (isWorked (v .status) ≡ true) × (eqb (v .status) cancelPending ≡ false)
     open-status h = go (eqb (v .status) 0) refl (eqb (v .status) 1) refl
       where
         at : (n : ℕ) → eqb (v .status) n ≡ true → (isWorked n ≡ true) × (eqb n cancelPending ≡ false) → (isWorked (v .status) ≡ true) × (eqb (v .status) cancelPending ≡ false)
-        at n q p = subst (λ (s : ℕ). (isWorked s ≡ true) × (eqb s cancelPending ≡ false)) (sym (eqb-true (v .status) n q)) p
+        at n q p = back-equal (v .status) n (λ (s : ℕ). (isWorked s ≡ true) × (eqb s cancelPending ≡ false)) q p
 
         go : (a : Bool) → eqb (v .status) 0 ≡ a → (b : Bool) → eqb (v .status) 1 ≡ b → (isWorked (v .status) ≡ true) × (eqb (v .status) cancelPending ≡ false)
         go true p b q = at 0 p (refl, refl)
         go false p true q = at 1 q (refl, refl)
         go false p false q = clash (rw (p, q) at h)
 
-    pub status-is : (n : ℕ) (P : ℕ → Type 0) → eqb (v .status) n ≡ true → P n → P (v .status)
-    status-is n P q h = subst P (sym (eqb-true (v .status) n q)) h
-
     -- 3
     pub row-new-modified : eqb (e .kind) 3 ≡ true → Row (newModified e v)
     unfolding newModified newWhole
     row-new-modified k =
-        let s = open-status (status-of 3 k) in
-        let made : v .new .created ≡ true = stands-new e v (eqb-true (standingOf e v) 0 (stands-of 3 k)) in
+        let s = open-status (status-of e v al 3 k) in
+        let made : v .new .created ≡ true = stands-new e v (eqb-true (standingOf e v) 0 (stands-of e v al 3 k)) in
         let of : (i : ℕ) → getD (unused (e .other) ∷ unused (e .mark) ∷ unused (e .cause) ∷ tenDigits (e .lrn .0) ∷ named (e .version) ∷ named (e .due) ∷ []) i true ≡ true
         = conj-at (unused (e .other) ∷ unused (e .mark) ∷ unused (e .cause) ∷ tenDigits (e .lrn .0) ∷ named (e .version) ∷ named (e .due) ∷ []) (at-kind e formed 3 (eqb-true (e .kind) 3 k)) in
         row-calm v (v .status) (e .time) (record { provider = v .new .provider; created = v .new .created; lrn = e .lrn; due = e .due }) (v .old) (v .canceller) (v .window) row
@@ -171,8 +153,8 @@ module _ (e : Event) (formed : wellFormed e ≡ true) (v : Version) (row : Row v
     pub row-old-modified : eqb (e .kind) 4 ≡ true → Row (oldModified e v)
     unfolding oldModified
     row-old-modified k =
-        let s = open-status (status-of 4 k) in
-        let made : v .old .created ≡ true = stands-old e v (eqb-true (standingOf e v) 1 (stands-of 4 k)) in
+        let s = open-status (status-of e v al 4 k) in
+        let made : v .old .created ≡ true = stands-old e v (eqb-true (standingOf e v) 1 (stands-of e v al 4 k)) in
         let of : (i : ℕ) → getD (unused (e .other) ∷ authorizes (e .mark) (e .cause) ∷ unused (e .lrn .0) ∷ named (e .version) ∷ named (e .due) ∷ []) i true ≡ true
         = conj-at (unused (e .other) ∷ authorizes (e .mark) (e .cause) ∷ unused (e .lrn .0) ∷ named (e .version) ∷ named (e .due) ∷ []) (at-kind e formed 4 (eqb-true (e .kind) 4 k)) in
         let o : OldSide = record { provider = v .old .provider; created = v .old .created; authorization = e .mark; cause = e .cause; due = e .due } in
@@ -204,10 +186,10 @@ module _ (e : Event) (formed : wellFormed e ≡ true) (v : Version) (row : Row v
     row-cancelled k = go (v .new .created) refl (v .old .created) refl
       where
         s : (isWorked (v .status) ≡ true) × (eqb (v .status) cancelPending ≡ false)
-        s = open-status (status-of 6 k)
+        s = open-status (status-of e v al 6 k)
 
         side : standingOf e v ≤ 1
-        side = leb-true (standingOf e v) 1 (stands-of 6 k)
+        side = leb-true (standingOf e v) 1 (stands-of e v al 6 k)
 
         alone : Row (turned e v canceled (v .canceller) (v .window))
         alone = turned-row canceled (v .canceller) (v .window) (s .0) calm8 refl refl (row .ranges .canceller) (unmarked v row (s .1) canceled refl)
@@ -223,17 +205,17 @@ module _ (e : Event) (formed : wellFormed e ≡ true) (v : Version) (row : Row v
     -- 7
     pub row-acknowledged : eqb (e .kind) 7 ≡ true → Row (acknowledged e v)
     unfolding acknowledged
-    row-acknowledged k = turned-row canceled 0 (v .window) (status-is 2 (λ (s : ℕ). isWorked s ≡ true) (status-of 7 k) refl) calm8 refl refl refl refl
+    row-acknowledged k = turned-row canceled 0 (v .window) (back-equal (v .status) 2 (λ (s : ℕ). isWorked s ≡ true) (status-of e v al 7 k) refl) calm8 refl refl refl refl
 
     -- 8
     pub row-resolved : eqb (e .kind) 8 ≡ true → Row (resolved e v)
     unfolding resolved oldWhole causeFits
     row-resolved k =
-        let q : eqb (v .status) conflict ≡ true = status-of 8 k in
+        let q : eqb (v .status) conflict ≡ true = status-of e v al 8 k in
         let made : v .old .created ≡ true = rw q at (needed-in v row .0) in
         let due : isTime (v .old .due) ≡ true = and-l (isTime (v .old .due)) _ (rw made at (row .old)) in
         row-calm v pending (e .time) (v .new) (record { provider = v .old .provider; created = v .old .created; authorization = yes; cause = 0; due = v .old .due })
-        (v .canceller) (v .window) row (calm-worked (v .status) (status-is 1 (λ (s : ℕ). isWorked s ≡ true) q refl)) calm0 time refl refl
+        (v .canceller) (v .window) row (calm-worked (v .status) (back-equal (v .status) 1 (λ (s : ℕ). isWorked s ≡ true) q refl)) calm0 time refl refl
         (record {
           new = row .new;
           old = rw made (both-true (isTime (v .old .due)) true due refl);
@@ -242,16 +224,16 @@ module _ (e : Event) (formed : wellFormed e ≡ true) (v : Version) (row : Row v
           cancelling = refl;
           cause = refl;
           small = row .ranges .canceller;
-          canceller = unmarked v row (status-is 1 (λ (s : ℕ). eqb s cancelPending ≡ false) q refl) pending refl;
+          canceller = unmarked v row (back-equal (v .status) 1 (λ (s : ℕ). eqb s cancelPending ≡ false) q refl) pending refl;
         })
 
     -- 13
     pub window-status : eqb (e .kind) 13 ≡ true → isWorked (v .status) ≡ true
-    window-status k = go (eqb (v .status) 0) refl (eqb (v .status) 2) refl (status-of 13 k)
+    window-status k = go (eqb (v .status) 0) refl (eqb (v .status) 2) refl (status-of e v al 13 k)
       where
         go : (a : Bool) → eqb (v .status) 0 ≡ a → (b : Bool) → eqb (v .status) 2 ≡ b → (a || (b || false)) ≡ true → isWorked (v .status) ≡ true
-        go true p b q h = status-is 0 (λ (s : ℕ). isWorked s ≡ true) p refl
-        go false p true q h = status-is 2 (λ (s : ℕ). isWorked s ≡ true) q refl
+        go true p b q h = back-equal (v .status) 0 (λ (s : ℕ). isWorked s ≡ true) p refl
+        go false p true q h = back-equal (v .status) 2 (λ (s : ℕ). isWorked s ≡ true) q refl
         go false p false q h = clash h
 
     pub row-window-turned : eqb (e .kind) 13 ≡ true → Row (windowTurned e v)
@@ -314,5 +296,5 @@ module _ (e : Event) (formed : wellFormed e ≡ true) (v : Version) (row : Row v
       go false p true q =
           let o : OldSide = oldFrom e (v .old .provider) in
           let r = old-from e o refl refl refl refl f (old-fields e formed q 4) (old-fields e formed q 1) in
-          by (v .new) o refl refl (row .new) (r .0) (r .1) (or-one (v .new .created)) (λ z. refl) (eqb (e .mark) no) refl
+          by (v .new) o refl refl (row .new) (r .0) (r .1) (or-true (v .new .created)) (λ z. refl) (eqb (e .mark) no) refl
       go false p false q = clash (rw (p, q) at k)

@@ -1,40 +1,31 @@
 -- Every step keeps a sound table sound.
 -- Assumes nothing.
-use mathlib.Core.Path.{_≡_, refl, sym, ap, ap₂, _∙_, subst}
-use Prim.Native.Nat.{ℕ, zero, suc, _+_, _≤_, _<_, Ordering, Ordering·lt, Ordering·eq, Ordering·gt}
-use mathlib.Core.Bool.{Bool, true, false, cond, not, _&&_, _||_}
-use mathlib.Core.List.{List, [], _∷_, _++_}
-use mathlib.Core.Option.{Option, none as nothing, some}
-use lib.Dec.{eqb, leb, ltb}
-use lib.ListN.{length, getD}
-use native.Mathlib.Omega.{arith}
-use borrow.Author.Tests.{eqb-true, leb-true, leb-false, le-leb, ltb-true, not-true, not-false}
-use Rattle.model.specs.Basics.{all, keep, holds, isNone, All, none, with}
-use Rattle.model.specs.Books.{Books, soundRetries, soundBooks}
-use Rattle.model.specs.Table.{order, sel, find, others, Under, Rising, inLine, rowsOf, changes, adds}
-use Rattle.model.specs.Sound.{soundVersion, oneEach, above, rising, soundLines, soundTable, count, live, sends, worked}
+use mathlib.Core.Path.{_≡_, refl, sym, _∙_}
+use Prim.Native.Nat.{ℕ, _≤_, _<_}
+use mathlib.Core.Bool.{Bool, true, false, cond}
+use mathlib.Core.List.{List, [], _∷_}
+use mathlib.Core.Option.{some}
+use lib.Dec.{eqb}
+use borrow.Author.Tests.{leb-true, leb-false, not-false}
+use Rattle.model.specs.Basics.{isNone}
+use Rattle.model.specs.Books.{soundRetries}
 use Rattle.model.specs.Record.{isCreate, isAnswer, wellFormed}
 use Rattle.model.specs.Outcomes.{isDone, judge, orderOf, createOrder, answerOrder, otherOrder}
 use Rattle.model.specs.Standing.{standingOf, standsFor, statusFor, gridRule, unready, lacksStanding, wrongStatus}
-use Rattle.model.specs.Given.{Given, Result, refuse, unless, nameIn, found, rest, newest, workedOne}
+use Rattle.model.specs.Given.{Given, found, newest, workedOne}
 use Rattle.model.specs.Creates.{fits}
 use Rattle.model.specs.Answers.{awaited}
-use Rattle.model.specs.Refusals.{absent, unlisted, early, busy, busyWith, unawaited, notCurrent, unfit, exhausted, full, refuses, idle}
-use Rattle.model.specs.Step.{whenFound, manages, accepted, rule, Setting, line, unsound, PLACES, Step, stepOf, step, after}
-use Rattle.model.proofs.Lists.{clash, and-l, and-r, both-true, or-off, conj-at, conj-all, all-true, true-all, all-keep, head-of}
-use Rattle.model.proofs.TableLaws.{rising-changes, length-changes}
-use Rattle.model.proofs.Apart.{Rule, stepBy, Rows, rows-rows, fine}
-use Rattle.model.proofs.Locality.{ruleIn, local}
-use Rattle.model.proofs.SoundRows.{Row, row-of, of-row}
+use Rattle.model.specs.Refusals.{busy, unawaited, unfit, exhausted, refuses, idle}
+use Rattle.model.specs.Step.{accepted, rule, Setting, line}
+use Rattle.model.proofs.Lists.{clash, or-off}
+use Rattle.model.proofs.Locality.{ruleIn}
 use Rattle.model.proofs.SoundOpened.{Allowed}
-use Rattle.model.proofs.SoundLines.{Line}
-use Rattle.model.proofs.SoundLaws.{Keeps, Ground, Sound, sound-after, keeps-refuse, keeps-if, keeps-found}
+use Rattle.model.proofs.SoundLaws.{Keeps, Ground, keeps-refuse, keeps-if, keeps-found}
 use Rattle.model.proofs.SoundKinds.{keeps-manages, keeps-creates, keeps-answers}
-use Rattle.model.specs.declared.Id.{Id}
 use Rattle.model.specs.declared.Event.{Event}
 use Rattle.model.specs.declared.Version.{Version}
 use Rattle.model.specs.declared.Outcome.{Outcome}
-use Rattle.model.specs.declared.Outcome.the-variants.{Done, Unsound, Malformed, Absent, Unlisted, Unknown, Standless, Misplaced, Early, Unfit, Busy, Unawaited, NotCurrent, Full, Exhausted}
+use Rattle.model.specs.declared.Outcome.the-variants.{Malformed, Absent, Unlisted, Unknown, Standless, Misplaced, Early, Unfit, Busy, Unawaited, NotCurrent, Full, Exhausted}
 
 -- ---- an accepted event has passed each predicate of its order
 

@@ -1,21 +1,21 @@
 -- A sound table as a test and as facts; and every step leaves one. [V12]
 -- Assumes nothing.
-use mathlib.Core.Path.{_≡_, refl, sym, ap, ap₂, _∙_, subst}
-use Prim.Native.Nat.{ℕ, zero, suc, _+_, _≤_, _<_, Ordering, Ordering·lt, Ordering·eq, Ordering·gt}
-use mathlib.Core.Bool.{Bool, true, false, cond, not, _&&_, _||_}
-use mathlib.Core.List.{List, [], _∷_, _++_, map}
+use mathlib.Core.Path.{_≡_, refl, subst}
+use Prim.Native.Nat.{ℕ, _+_, _≤_, _<_, Ordering, Ordering·lt, Ordering·eq, Ordering·gt}
+use mathlib.Core.Bool.{Bool, true, false, cond}
+use mathlib.Core.List.{List, [], _∷_}
 use mathlib.Core.Option.{Option, none as nothing, some}
 use lib.Dec.{eqb, leb, ltb}
 use lib.ListN.{length, getD}
 use native.Mathlib.Omega.{arith}
-use borrow.Author.Tests.{eqb-true, leb-true, le-leb, ltb-true, ltb-false, not-true, not-false}
-use Rattle.model.specs.Basics.{all, keep, among, isNone, All, none, with}
-use Rattle.model.specs.Books.{soundRetries, soundBooks}
+use borrow.Author.Tests.{leb-true, le-leb, ltb-true, not-false}
+use Rattle.model.specs.Basics.{all, among, All, none, with}
+use Rattle.model.specs.Books.{soundRetries}
 use Rattle.model.specs.Table.{order, sel, Change, put, Under, Rising, rowsOf, changes, adds}
 use Rattle.model.specs.Sound.{soundVersion, oneEach, above, rising, soundLines, soundTable, count, live, sends, worked}
 use Rattle.model.specs.Record.{isCreate, isAnswer, isBroadcast, wellFormed}
-use Rattle.model.specs.Outcomes.{isDone, judge, orderOf, createOrder}
-use Rattle.model.specs.Given.{Given, Result, refuse, accept, unless, nameIn, found, rest, workedOne}
+use Rattle.model.specs.Outcomes.{isDone, judge, orderOf}
+use Rattle.model.specs.Given.{Given, Result, refuse, accept, found, rest, workedOne}
 use Rattle.model.specs.Creates.{creates, createOn}
 use Rattle.model.specs.Changes.{modifies, turns, cancelled, acknowledged, resolved, windowRuns, windowMarked, windowTurned, marks}
 use Rattle.model.specs.Tray.{windowTold}
@@ -23,8 +23,8 @@ use Rattle.model.specs.Broadcast.{opened, broadcastOf, broadcasts}
 use Rattle.model.specs.Selection.{selectedFor}
 use Rattle.model.specs.Answers.{answers, heard}
 use Rattle.model.specs.Refusals.{full, refuses}
-use Rattle.model.specs.Step.{whenFound, purges, manages, accepted, rule, Setting, line, unsound, PLACES, Step, after}
-use Rattle.model.proofs.Lists.{clash, both-true, conj-at, conj-all, all-true, true-all, all-keep, all-both, head-of}
+use Rattle.model.specs.Step.{whenFound, purges, manages, accepted, rule, Setting, line, after}
+use Rattle.model.proofs.Lists.{clash, conj-at, conj-all, all-true, true-all, all-keep, all-both, head-of}
 use Rattle.model.proofs.TableLaws.{length-changes}
 use Rattle.model.proofs.Apart.{stepBy, rows-rows}
 use Rattle.model.proofs.Locality.{ruleIn, local, adds-settles}
@@ -35,7 +35,6 @@ use Rattle.model.proofs.SoundStep.{create-passed, keeps-rule}
 use Rattle.model.specs.declared.Id.{Id}
 use Rattle.model.specs.declared.Event.{Event}
 use Rattle.model.specs.declared.Version.{Version}
-use Rattle.model.specs.declared.Outcome.{Outcome}
 use Rattle.model.specs.declared.Outcome.the-variants.{Malformed}
 
 -- ---- rising

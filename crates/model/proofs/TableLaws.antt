@@ -2,14 +2,14 @@
 -- the table that a test on names cuts out sees only the changes of names that pass the test.
 -- Assumes nothing.
 use mathlib.Core.Path.{_≡_, refl, sym, ap, _∙_, subst}
-use Prim.Native.Nat.{ℕ, suc, _+_, _≤_, Ordering, Ordering·lt, Ordering·eq, Ordering·gt}
-use mathlib.Core.Bool.{Bool, true, false, cond}
-use mathlib.Core.Option.{Option, none, some}
-use mathlib.Core.List.{List, [], _∷_, _++_}
+use Prim.Native.Nat.{suc, _+_, _≤_, Ordering, Ordering·lt, Ordering·eq, Ordering·gt}
+use mathlib.Core.Bool.{Bool, true, false}
+use mathlib.Core.Option.{some}
+use mathlib.Core.List.{List, [], _∷_}
 use lib.ListN.{length}
 use native.Mathlib.Omega.{arith}
 use Rattle.model.specs.Basics.{keep}
-use Rattle.model.specs.Table.{order, sel, Change, put, add, strike, nameOf, miss, hit, fresh, adds, change, changes, find, notNamed, others, Under, Rising}
+use Rattle.model.specs.Table.{order, Change, put, add, strike, nameOf, miss, hit, fresh, adds, change, changes, find, Under, Rising}
 use Rattle.model.proofs.Order.{order-self, order-eq, order-gt, order-lt, order-trans}
 use Rattle.model.specs.declared.Id.{Id}
 use Rattle.model.specs.declared.Version.{Version}

@@ -1,12 +1,12 @@
 -- What is proved of document 01's rules. Each statement is whole here; its proof stands in the file that is cited.
 -- Assumes nothing.
-use mathlib.Core.Path.{_≡_, refl, sym, ap, _∙_, subst}
+use mathlib.Core.Path.{_≡_, refl}
 use Prim.Native.Nat.{ℕ, _+_, _*_, _≤_, _<_}
-use mathlib.Core.Bool.{Bool, true, false, cond}
+use mathlib.Core.Bool.{Bool, true, false}
 use mathlib.Core.List.{List, []}
 use lib.ListN.{length, getD}
 use Rattle.model.specs.Basics.{All}
-use Rattle.model.specs.Table.{rowsOf, changes}
+use Rattle.model.specs.Table.{rowsOf}
 use Rattle.model.specs.Sound.{soundTable}
 use Rattle.model.specs.Outcomes.{isDone}
 use Rattle.model.specs.Standing.{gridRule, kindAt}
@@ -14,15 +14,13 @@ use Rattle.model.specs.Step.{Setting, line, unsound, step, stepOf, after
 use Rattle.model.specs.Exchange.{Demand3}
 use Rattle.model.proofs.Lists.{clash}
 use Rattle.model.proofs.SoundTables.{says-table}
-use Rattle.model.proofs.Reordering.{Sane, sane-of, bare, bare-keeps, step-is, reordering}
+use Rattle.model.proofs.Reordering.{sane-of, bare-keeps, step-is, reordering}
 use Rattle.model.proofs.Effects.{modest-step, fine-step, other-rows}
 use Rattle.model.proofs.Worked.{allPass, examples, worked-examples, passes, listing, the-listing, slips, slips-shut-out}
 use Rattle.model.proofs.Cells.{cells, by-place}
 use Rattle.model.specs.declared.Version.{Version}
 use Rattle.model.specs.declared.Event.{Event}
 use Rattle.model.specs.declared.Message.{Message}
-use Rattle.model.specs.declared.Outcome.{Outcome}
-use Rattle.model.specs.declared.Outcome.the-variants.{Done, Unsound}
 
 -- On a sound table with sound books every event, accepted or refused, leaves a sound table: all clauses, all kinds. [V12]
 pub stays-sound : (s : Setting) (e : Event) (t : List Version) → unsound s t ≡ false → unsound s (after (stepOf s) e t) ≡ false

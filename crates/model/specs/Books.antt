@@ -1,13 +1,13 @@
 -- Names and books, second part: the books, lent and only read. [B6]
 -- Assumes nothing.
 use Prim.Native.Nat.{ℕ}
-use mathlib.Core.Bool.{Bool, true, false, cond, not, _&&_, _||_}
+use mathlib.Core.Bool.{Bool, true, cond, not, _&&_, _||_}
 use mathlib.Core.List.{List, [], _∷_}
 use lib.Dec.{eqb, ltb, leb}
 use lib.ListN.{length}
 use Rattle.systems.specs.Set.{member}
 use Rattle.model.specs.Basics.{any, all, every, implies}
-use Rattle.model.specs.Numbers.{codeOf, isCode, isProvider, isSet}
+use Rattle.model.specs.Numbers.{isCode, isProvider, isSet}
 use Rattle.model.specs.declared.Marks.{Marks}
 
 -- a code and its owner

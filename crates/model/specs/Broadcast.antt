@@ -1,8 +1,8 @@
 -- Broadcast, second part: kinds 5, 9, 10 and 14 start one.
 -- Assumes nothing.
 use Prim.Native.Nat.{ℕ}
-use mathlib.Core.Bool.{Bool, true, false, cond, not, _&&_, _||_}
-use mathlib.Core.List.{List, [], _∷_, _++_}
+use mathlib.Core.Bool.{Bool, cond}
+use mathlib.Core.List.{List, _∷_, _++_}
 use lib.Dec.{eqb}
 use Rattle.systems.specs.Set.{meet}
 use Rattle.model.specs.Books.{Books}

@@ -1,16 +1,14 @@
 -- Modifies, cancel, resolve and window: what they make of a version. Each sets the stamp to the event's time. [R3]
 -- Assumes nothing.
 use Prim.Native.Nat.{ℕ, suc}
-use mathlib.Core.Bool.{Bool, true, false, cond, not, _&&_, _||_}
-use mathlib.Core.List.{List, [], _∷_}
+use mathlib.Core.Bool.{Bool, true, cond, _&&_, _||_}
+use mathlib.Core.List.{[], _∷_}
 use lib.Dec.{eqb}
 use Rattle.model.specs.Table.{put}
 use Rattle.model.specs.Sound.{pending, conflict, cancelPending, canceled, yes, no}
 use Rattle.model.specs.Standing.{standingOf}
 use Rattle.model.specs.Given.{Result, accept}
 use Rattle.model.specs.Tray.{statusTold, restatedTold, windowTold}
-use Rattle.model.specs.declared.NewSide.{NewSide}
-use Rattle.model.specs.declared.OldSide.{OldSide}
 use Rattle.model.specs.declared.Event.{Event}
 use Rattle.model.specs.declared.Version.{Version}
 

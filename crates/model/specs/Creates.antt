@@ -10,9 +10,8 @@ use Rattle.model.specs.Books.{Books, ownerOf}
 use Rattle.model.specs.Table.{put, add}
 use Rattle.model.specs.Retries.{noRetries}
 use Rattle.model.specs.Sound.{pending, conflict, cancelPending, no}
-use Rattle.model.specs.Given.{Given, Result, accept, newest, liveOne, workedOne}
+use Rattle.model.specs.Given.{Result, accept, newest, liveOne, workedOne}
 use Rattle.model.specs.Tray.{noLrn, createdTold, restatedTold}
-use Rattle.model.specs.declared.Id.{Id}
 use Rattle.model.specs.declared.NewSide.{NewSide}
 use Rattle.model.specs.declared.OldSide.{OldSide}
 use Rattle.model.specs.declared.Broadcast.{Broadcast}

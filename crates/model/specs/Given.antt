@@ -14,7 +14,7 @@ use Rattle.model.specs.declared.Event.{Event}
 use Rattle.model.specs.declared.Version.{Version}
 use Rattle.model.specs.declared.Message.{Message}
 use Rattle.model.specs.declared.Outcome.{Outcome}
-use Rattle.model.specs.declared.Outcome.the-variants.{Done, Unknown}
+use Rattle.model.specs.declared.Outcome.the-variants.{Done}
 
 -- the books, R, whether there is a free row, the event, and the rows of its number
 pub record Given : Type 0 where

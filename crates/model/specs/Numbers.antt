@@ -1,9 +1,8 @@
 -- Names and books, first part: the numbers of document 01.
 -- Assumes nothing.
 use Prim.Native.Nat.{ℕ, _/_, _%_, _^_}
-use mathlib.Core.Bool.{Bool, not, _&&_}
+use mathlib.Core.Bool.{Bool, _&&_}
 use lib.Dec.{eqb, ltb, leb}
-use Rattle.systems.specs.Set.{member}
 
 -- A TN and an LRN are ten-digit numbers whose first and fourth digits are 2 to 9. [N1]
 abbrev pub tenDigits : ℕ → Bool

@@ -1,10 +1,9 @@
 -- Too early and busy, and for each outcome number the one predicate that gives it.
 -- Assumes nothing.
 use Prim.Native.Nat.{ℕ}
-use mathlib.Core.Bool.{Bool, true, false, cond, not, _&&_, _||_}
-use mathlib.Core.List.{List, [], _∷_}
+use mathlib.Core.Bool.{Bool, false, cond, not, _&&_, _||_}
+use mathlib.Core.List.{List}
 use lib.Dec.{eqb, ltb, leb}
-use Rattle.systems.specs.Set.{member}
 use Rattle.model.specs.Basics.{any, holds, isNone}
 use Rattle.model.specs.Numbers.{codeOf}
 use Rattle.model.specs.Books.{Books, present, ownerOf}

@@ -1,7 +1,7 @@
 -- Retries used per system: base-8 digits of three numbers, 21 systems in each.
 -- Assumes nothing.
 use Prim.Native.Nat.{ℕ, _+_, _-_, _*_, _/_, _%_, _^_}
-use mathlib.Core.Bool.{Bool, cond}
+use mathlib.Core.Bool.{cond}
 use lib.Dec.{leb}
 use Rattle.model.specs.declared.Retries.{Retries}
 

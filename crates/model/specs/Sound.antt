@@ -1,10 +1,8 @@
 -- The version table, second part: when a version, the rows of a number and a table are sound.
 -- Assumes nothing.
-use mathlib.Core.Path.{_≡_}
-use Prim.Native.Nat.{ℕ, _^_, _≤_}
+use Prim.Native.Nat.{ℕ, _^_}
 use mathlib.Core.Bool.{Bool, true, false, cond, not, _&&_, _||_}
 use mathlib.Core.List.{List, [], _∷_}
-use Prim.Native.Nat.{Ordering, Ordering·lt, Ordering·eq, Ordering·gt}
 use lib.Dec.{eqb, ltb, leb}
 use lib.ListN.{length}
 use Rattle.systems.specs.Set.{member}
@@ -58,10 +56,6 @@ isSending s = eqb s sending
 -- the statuses that have a purpose
 abbrev pub isPurposed : ℕ → Bool
 isPurposed s = among s (sending ∷ failure ∷ partialFailure ∷ active ∷ [])
-
--- neither old nor canceled
-abbrev pub inUse : ℕ → Bool
-inUse s = not (among s (old ∷ canceled ∷ []))
 
 -- purposes: 1 activate, 2 modify, 3 disconnect; 0 none
 abbrev pub activate : ℕ

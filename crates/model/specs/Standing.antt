@@ -1,8 +1,8 @@
 -- Standing and status: the grid, and the finer conditions.
 -- Assumes nothing.
 use Prim.Native.Nat.{ℕ, _+_, _-_}
-use mathlib.Core.Bool.{Bool, true, false, cond, not, _&&_, _||_}
-use mathlib.Core.List.{List, [], _∷_}
+use mathlib.Core.Bool.{Bool, cond, not, _&&_, _||_}
+use mathlib.Core.List.{[], _∷_}
 use lib.Dec.{eqb, ltb, leb}
 use Rattle.model.specs.Basics.{among}
 use Rattle.model.specs.Sound.{pending, conflict, cancelPending, failure, partialFailure, active, old, canceled}

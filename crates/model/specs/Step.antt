@@ -1,14 +1,14 @@
 -- One event on a table, and a list of them.
 -- Assumes nothing.
 use Prim.Native.Nat.{ℕ}
-use mathlib.Core.Bool.{Bool, true, false, cond, not, _&&_, _||_}
+use mathlib.Core.Bool.{Bool, cond, not, _&&_}
 use mathlib.Core.Option.{Option, none, some}
 use mathlib.Core.List.{List, [], _∷_, _++_}
 use lib.Dec.{eqb, ltb, leb}
 use lib.ListN.{length}
-use Rattle.model.specs.Basics.{keep, among}
+use Rattle.model.specs.Basics.{among}
 use Rattle.model.specs.Books.{Books, soundBooks, soundRetries, lineOf}
-use Rattle.model.specs.Table.{put, strike, rowsOf, changes}
+use Rattle.model.specs.Table.{strike, rowsOf, changes}
 use Rattle.model.specs.Sound.{soundTable}
 use Rattle.model.specs.Record.{isCreate, isAnswer, isBroadcast, wellFormed}
 use Rattle.model.specs.Outcomes.{orderOf, judge}

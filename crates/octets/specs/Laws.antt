@@ -1,17 +1,14 @@
 -- Laws of big-endian numbers, each over the width n.
 -- Assumes nothing.
-use mathlib.Core.Path.{_≡_, refl, sym, ap, _∙_, subst}
+use mathlib.Core.Path.{_≡_, refl, sym, ap, _∙_}
 use mathlib.Core.List.{List, [], _∷_, _++_, append-assoc, append-nil}
-use Prim.Native.Nat.{ℕ, zero, suc, _+_, _-_, _*_, _/_, _%_, _^_, _<_, _≤_, zero-le, suc-le-suc}
-use native.Mathlib.Nat.{add-zero, add-suc, pow-suc, le-add-right, mod-lt, lt-of-lt-of-le, le-refl, zero-lt-suc, pow-le-pow-right, not-suc-le-zero, mul-one, add-mul, mul-assoc, add-assoc, div-lt-iff-lt-mul, div-add-mod'}
-use native.Mathlib.Numerals.{add-one, sub-one}
+use Prim.Native.Nat.{ℕ, zero, suc, _+_, _-_, _*_, _/_, _%_, _^_, _<_, _≤_}
+use native.Mathlib.Nat.{add-zero, add-suc, pow-suc, le-add-right, mod-lt, lt-of-lt-of-le, le-refl, zero-lt-suc, pow-le-pow-right, mul-one, add-mul, mul-assoc, add-assoc, div-lt-iff-lt-mul}
 use native.Mathlib.Omega.{arith}
 use lib.ListN.{length, getD, take, drop, set, length-set, length-append, length-drop, take-append-drop}
-use lib.Seq.{take-suc, drop-cons, append-snoc, getD-set-same, take-set-le, drop-set-lt, getD-at, getD-drop, length-take-le, take-at, drop-append-add}
+use lib.Seq.{take-suc, drop-cons, getD-set-same, take-set-le, drop-set-lt, getD-at, getD-drop, take-at, drop-append-add}
 use lib.Arith.{digits-lt, digits-div, digits-mod, mod-mul}
-use Rattle.octets.specs.Octets.{Bytes, be, digits, put, pick, whole, wordAt, Stored}
-use mathlib.Core.Bool.{Bool, true, false}
-use borrow.Author.Tests.{le-leb}
+use Rattle.octets.specs.Octets.{Bytes, be, digits, put}
 
 -- n bytes are below 256 ^ n
 pub be-lt : (xs : List ℕ) → Bytes xs → (n at : ℕ) → be n xs at < 256 ^ n
@@ -61,7 +58,7 @@ digits-be xs h (suc n) at l =
     ∙ ap (λ (k : ℕ). take n (drop at xs) ++ (k ∷ [])) (sym (getD-drop at xs n 0))
     ∙ sym (take-suc (drop at xs) n 0 m)
 
--- the same list, a byte at a time from the last: what a loop does
+-- the same list, a byte at a time from the last: what the code does
 unfoldable pub puts : ℕ → List ℕ → ℕ → ℕ → List ℕ
 puts zero xs at v = xs
 puts (suc n) xs at v = puts n (set xs (at + n) (v % 256)) at (v / 256)
@@ -84,19 +81,9 @@ puts-put (suc n) xs at v l =
     ∙ ap (λ (t : List ℕ). b ∷ t) (drop-set-lt (suc (at + n)) xs (at + n) b (le-refl (suc (at + n))) ∙ ap (λ (k : ℕ). drop k xs) (sym (add-suc at n))))
     ∙ sym (regroup (take at xs) d b (drop (at + suc n) xs))
 
--- up to 8 bytes and one more fit a u64
+-- up to 8 bytes fit a u64
 pub be-word : (xs : List ℕ) → Bytes xs → (n at : ℕ) → n ≤ 8 → be n xs at < 2 ^ 64
 be-word xs h n at l = lt-of-lt-of-le (be-lt xs h n at) (pow-le-pow-right (zero-lt-suc 255) l)
-
-pub be-suc : (xs : List ℕ) (n at : ℕ) → be (n + 1) xs at ≡ be n xs at * 256 + getD xs (at + n) 0
-unfolding be
-be-suc xs n at = rw add-one
-
--- a turn of that loop
-pub puts-turn : (i : ℕ) (xs : List ℕ) (at v : ℕ) → 0 < i → puts (i - 1) (set xs (at + (i - 1)) (v % 256)) at (v / 256) ≡ puts i xs at v
-unfolding puts
-puts-turn zero xs at v h = absurd (not-suc-le-zero h)
-puts-turn (suc n) xs at v h = rw sub-one
 
 -- ---- words side by side
 
@@ -134,16 +121,6 @@ put-after p r n at v e =
     ap (λ (l : List ℕ). l ++ digits n v ++ drop (at + n) (p ++ r)) (take-at p r at e)
     ∙ ap (λ (l : List ℕ). p ++ digits n v ++ l) (ap (λ (k : ℕ). drop (k + n) (p ++ r)) (sym e) ∙ drop-append-add p r n)
 
-pub length-put : (n : ℕ) (xs : List ℕ) (at v : ℕ) → at + n ≤ length xs → length (put n xs at v) ≡ length xs
-unfolding put
-length-put n xs at v h =
-    let t : length (take at xs) ≡ at = length-take-le at xs (omega arith) in
-    simp (length-append, length-drop, t, length-digits) (omega arith)
-
--- what a store leaves where the word lies whole in the list
-pub stored-whole : (n : ℕ) (xs : List ℕ) (at v : ℕ) (ys : List ℕ) (r : Bool) → at + n ≤ length xs → Stored n xs at v ys r → ys ≡ put n xs at v
-stored-whole n xs at v ys r h s = s .after ∙ simp (le-leb (at + n) (length xs) h)
-
 bytes-append : (xs ys : List ℕ) → Bytes xs → Bytes ys → Bytes (xs ++ ys)
 bytes-append [] ys h k i = k i
 bytes-append (x ∷ xs) ys h k zero = h 0
@@ -158,11 +135,3 @@ pub bytes-digits : (n v : ℕ) → Bytes (digits n v)
 unfolding digits
 bytes-digits zero v i = zero-lt-suc 255
 bytes-digits (suc n) v i = bytes-append (digits n (v / 256)) (v % 256 ∷ []) (bytes-digits n (v / 256)) (one-byte (v % 256) (mod-lt v (zero-lt-suc 255))) i
-
-pick-lt : (b : Bool) {x m : ℕ} → x < m → 0 < m → pick b x 0 < m
-pick-lt true h z = h
-pick-lt false h z = z
-
--- a word of n bytes, or 0, fits n bytes
-pub word-lt : (xs : List ℕ) → Bytes xs → (n at : ℕ) → wordAt n xs at < 256 ^ n
-word-lt xs h n at = pick-lt (whole n xs at) (be-lt xs h n at) (pow-positive n)

@@ -1,29 +1,28 @@
 -- Laws of the provider list: read record by record it says what it says as a whole, and a sound list has sound marks.
 -- Assumes nothing.
-use Prim.Native.Nat.{ℕ, zero, suc, _+_, _-_, _%_, _^_, _≤_, _<_}
+use Prim.Native.Nat.{ℕ, zero, suc, _+_, _-_, _^_, _≤_, _<_}
 use mathlib.Core.Path.{_≡_, refl, sym, ap, ap₂, _∙_}
-use mathlib.Core.Bool.{Bool, true, false, cond, not, _&&_, _||_, and-assoc, and-true}
+use mathlib.Core.Bool.{Bool, true, false, cond, not, _&&_, _||_, and-assoc, and-true, false≢true}
 use mathlib.Core.List.{List, [], _∷_, _++_, map}
-use native.Mathlib.Nat.{one-mul, add-comm, add-zero, pow-suc, le-refl}
+use native.Mathlib.Nat.{one-mul, add-comm, add-zero, le-refl}
 use native.Mathlib.Decide.{le-ind}
 use native.Mathlib.Numerals.{add-one}
 use native.Mathlib.Omega.{arith}
-use borrow.Author.Tests.{lt-ltb, le-leb, lt-leb, leb-true, ltb-true, ltb-false, eq-eqb}
+use borrow.Author.Tests.{le-leb, lt-leb, leb-true, ltb-true, ltb-false}
 use lib.Bits.{bitOr, or-shifted-r}
 use lib.Dec.{ltb, leb}
 use lib.ListN.{length, getD, take, List·getD-map, List·getD-eq-default}
 use lib.Seq.{take-suc, take-length}
-use Rattle.octets.specs.Fields.{false-true, and-l, and-r}
+use Rattle.octets.specs.Fields.{and-l, and-r}
 use Rattle.systems.specs.Set.{member, maskOf}
 use Rattle.systems.specs.Laws.{mask-lt, mask-member}
 use Rattle.model.specs.Basics.{all, every, implies}
 use Rattle.model.specs.Books.{soundMarks}
-use Rattle.model.specs.Numbers.{isSet}
 use Rattle.model.specs.declared.Provider.{Provider}
 use Rattle.providers.specs.declared.Listed.{Listed}
 use Rattle.model.specs.declared.Marks.{Marks}
 use Rattle.providers.specs.Providers.{absent, fine, soundList, presentAt, localAt, marksOf, nobody, unsound, listed, entryOf}
-use Rattle.providers.specs.MarksLaws.{every-of}
+use Rattle.model.proofs.SoundSets.{every-all, set-mask}
 use Rattle.providers.specs.Growth.{markOf, addsTo, grownBy, listedTo}
 
 -- ---- a step of the readers
@@ -156,18 +155,9 @@ in-room sound x i r e t = ltb-true i 63 (go sound (ltb i 63) (x .present || not 
     go : (x y b : Bool) → (x && y && b) ≡ true → y ≡ true
     go true true b h = refl
     go true false b h = h
-    go false y b h = absurd (false-true h)
+    go false y b h = absurd (false≢true h)
 
 -- ---- sound marks
-
-mask-even : (f : ℕ → Bool) (n : ℕ) → maskOf f n % 2 ≡ 0
-unfolding maskOf
-mask-even f zero = refl
-mask-even f (suc n) = go (f (suc n)) (mask-even f n)
-  where
-    go : (b : Bool) → maskOf f n % 2 ≡ 0 → (maskOf f n + cond b (2 ^ suc n) 0) % 2 ≡ 0
-    go true h = omega (arith, pow-suc 2 n)
-    go false h = omega arith
 
 all-at : (l : List Provider) → all fine l ≡ true → (i : ℕ) → fine (getD l i absent) ≡ true
 all-at [] e i = refl
@@ -183,14 +173,11 @@ pub listed-sound : (l : List Provider) → soundMarks (listed l .marks) ≡ true
 unfolding listed soundMarks
 listed-sound l = go (leb (length l) 63) (all fine l) refl
   where
-    set : (f : ℕ → Bool) → isSet (maskOf f 63) ≡ true
-    set f = ap₂ (λ (a b : Bool). a && b) (lt-ltb (maskOf f 63) (2 ^ 64) (mask-lt f 63)) (eq-eqb (maskOf f 63 % 2) 0 (mask-even f 63))
-
     within : all fine l ≡ true → (p : ℕ) → 0 < p → p ≤ 63 → implies (member (maskOf (localAt l) 63) p) (member (maskOf (presentAt l) 63) p) ≡ true
     within e p h k = rw (mask-member (localAt l) 63 p h k, mask-member (presentAt l) 63 p h k) (all-at l e (p - 1))
 
     go : (a b : Bool) → all fine l ≡ b → soundMarks (cond (a && b) (record { sound = true; marks = marksOf l }) unsound .marks) ≡ true
-    go true true e = ap₂ (λ (a b : Bool). a && b) (ap₂ (λ (a b : Bool). a && b) (set (presentAt l)) (set (localAt l))) (every-of _ 63 (within e))
+    go true true e = ap₂ (λ (a b : Bool). a && b) (ap₂ (λ (a b : Bool). a && b) (set-mask (presentAt l)) (set-mask (localAt l))) (every-all _ 63 (within e))
     go true false e = nobody-sound
     go false b e = nobody-sound
 

@@ -1,57 +1,21 @@
 -- Laws of the providers' marks as sets: sound marks, tested by one `and` of the two sets.
 -- Assumes nothing.
-use Prim.Native.Nat.{ℕ, zero, suc, _+_, _*_, _/_, _%_, _^_, _≤_, _<_, min}
+use Prim.Native.Nat.{ℕ, zero, suc, _%_, _^_, _≤_, _<_}
 use mathlib.Core.Path.{_≡_, refl, sym, ap, ap₂, _∙_}
-use mathlib.Core.Bool.{Bool, true, false, _&&_}
-use native.Mathlib.Nat.{mod-lt, div-one, min-le-left, lt-of-le-of-lt}
+use mathlib.Core.Bool.{Bool, true, false, _&&_, false≢true}
+use native.Mathlib.Nat.{div-one, lt-of-le-of-lt}
 use native.Mathlib.Omega.{arith}
-use borrow.Author.Tests.{lt-ltb, eq-eqb, ne-eqb, eqb-true, eqb-false}
-use lib.Bits.{bitAnd, and-shr, and-step, and-le-l}
-use lib.Dec.{eqb, lit<}
-use Rattle.octets.specs.Fields.{false-true, and-l, and-r}
+use borrow.Author.Tests.{lt-ltb, eq-eqb, ne-eqb, eqb-true}
+use lib.Bits.{bitAnd, and-le-l}
+use lib.Dec.{eqb}
+use Rattle.octets.specs.Fields.{and-r}
 use Rattle.systems.specs.Set.{member}
-use Rattle.systems.specs.Laws.{ext}
+use Rattle.systems.specs.Laws.{member-and, ext}
 use Rattle.model.specs.Basics.{every, implies}
 use Rattle.model.specs.Numbers.{isSet}
 use Rattle.model.specs.Books.{soundMarks}
 use Rattle.model.specs.declared.Marks.{Marks}
-
--- ---- a test of each of 1 to n
-
-pub every-of : (f : ℕ → Bool) (n : ℕ) → ((p : ℕ) → 0 < p → p ≤ n → f p ≡ true) → every f n ≡ true
-unfolding every
-every-of f zero h = refl
-every-of f (suc n) h = ap₂ (λ (a b : Bool). a && b) (every-of f n (λ p k l. h p k (omega arith))) (h (suc n) (omega arith) (omega arith))
-
-pub every-at : (f : ℕ → Bool) (n : ℕ) → every f n ≡ true → (p : ℕ) → 0 < p → p ≤ n → f p ≡ true
-unfolding every
-every-at f zero e p h k = absurd (omega arith)
-every-at f (suc n) e p h k = go (every-at f n (and-l (every f n) (f (suc n)) e)) (eqb p (suc n)) refl
-  where
-    go : ((q : ℕ) → 0 < q → q ≤ n → f q ≡ true) → (b : Bool) → eqb p (suc n) ≡ b → f p ≡ true
-    go ih true x = ap f (eqb-true p (suc n) x) ∙ and-r (every f n) (f (suc n)) e
-    go ih false x = ih p h (let ne : (p ≡ suc n → ⊥) = eqb-false p (suc n) x in omega arith)
-
--- ---- the meet of two sets
-
-min-bits : (x y : ℕ) → x < 2 → y < 2 → eqb (min x y) 1 ≡ (eqb x 1 && eqb y 1)
-min-bits zero zero h k = refl
-min-bits zero (suc zero) h k = refl
-min-bits zero (suc (suc y)) h k = absurd (omega arith)
-min-bits (suc zero) zero h k = refl
-min-bits (suc zero) (suc zero) h k = refl
-min-bits (suc zero) (suc (suc y)) h k = absurd (omega arith)
-min-bits (suc (suc x)) y h k = absurd (omega arith)
-
-pub and-member : (a b p : ℕ) → member (bitAnd a b) p ≡ (member a p && member b p)
-unfolding member
-and-member a b p =
-    ap (λ (x : ℕ). eqb (x % 2) 1) (and-shr a b p) ∙ ap (λ (x : ℕ). eqb (x % 2) 1) (and-step (a / 2 ^ p) (b / 2 ^ p))
-    ∙ ap (λ (x : ℕ). eqb x 1) (low (bitAnd (a / 2 ^ p / 2) (b / 2 ^ p / 2)) (min (a / 2 ^ p % 2) (b / 2 ^ p % 2)) (lt-of-le-of-lt (min-le-left (a / 2 ^ p % 2) (b / 2 ^ p % 2)) (mod-lt (a / 2 ^ p) (lit< tt))))
-    ∙ min-bits (a / 2 ^ p % 2) (b / 2 ^ p % 2) (mod-lt (a / 2 ^ p) (lit< tt)) (mod-lt (b / 2 ^ p) (lit< tt))
-  where
-    low : (q r : ℕ) → r < 2 → (q * 2 + r) % 2 ≡ r
-    low q r h = omega arith
+use Rattle.model.proofs.SoundSets.{every-at, every-all}
 
 -- ---- sound marks
 
@@ -60,7 +24,7 @@ pub runs-present : (m : Marks) → soundMarks m ≡ true → (p : ℕ) → 0 < p
 unfolding soundMarks
 runs-present m e p h k r =
     let w : implies (member (m .local) p) (member (m .present) p) ≡ true
-    = every-at (λ (q : ℕ). implies (member (m .local) q) (member (m .present) q)) 63 (and-r (isSet (m .present) && isSet (m .local)) (every (λ (q : ℕ). implies (member (m .local) q) (member (m .present) q)) 63) e) p h k in
+    = every-at (λ (q : ℕ). implies (member (m .local) q) (member (m .present) q)) 63 p (and-r (isSet (m .present) && isSet (m .local)) _ e) h k in
     rw r at w
 
 low : (s : ℕ) → eqb (s % 2) 0 ≡ true → member s 0 ≡ false
@@ -80,15 +44,15 @@ sound-bits m hp hl = rw (lt-ltb (m .present) (2 ^ 64) hp, lt-ltb (m .local) (2 ^
     go true x true y = same (every in? 63) refl
       where
         meet : every in? 63 ≡ true → (p : ℕ) → p < 64 → member (bitAnd (m .local) (m .present)) p ≡ member (m .local) p
-        meet e zero k = and-member (m .local) (m .present) 0 ∙ ap₂ (λ (a b : Bool). a && b) (low (m .local) y) (low (m .present) x) ∙ sym (low (m .local) y)
-        meet e (suc p) k = and-member (m .local) (m .present) (suc p) ∙ within (member (m .local) (suc p)) (member (m .present) (suc p)) (every-at in? 63 e (suc p) (omega arith) (omega arith))
+        meet e zero k = member-and (m .local) (m .present) 0 ∙ ap₂ (λ (a b : Bool). a && b) (low (m .local) y) (low (m .present) x) ∙ sym (low (m .local) y)
+        meet e (suc p) k = member-and (m .local) (m .present) (suc p) ∙ within (member (m .local) (suc p)) (member (m .present) (suc p)) (every-at in? 63 (suc p) e (omega arith) (omega arith))
           where
             within : (a b : Bool) → implies a b ≡ true → (a && b) ≡ a
             within true b h = h
             within false b h = refl
 
         each : bitAnd (m .local) (m .present) ≡ m .local → (p : ℕ) → 0 < p → p ≤ 63 → in? p ≡ true
-        each e p h k = of (member (m .local) p) (member (m .present) p) (sym (and-member (m .local) (m .present) p) ∙ ap (λ (s : ℕ). member s p) e)
+        each e p h k = of (member (m .local) p) (member (m .present) p) (sym (member-and (m .local) (m .present) p) ∙ ap (λ (s : ℕ). member s p) e)
           where
             of : (a b : Bool) → (a && b) ≡ a → implies a b ≡ true
             of true b h = h
@@ -96,6 +60,6 @@ sound-bits m hp hl = rw (lt-ltb (m .present) (2 ^ 64) hp, lt-ltb (m .local) (2 ^
 
         same : (b : Bool) → every in? 63 ≡ b → eqb (bitAnd (m .local) (m .present)) (m .local) ≡ b
         same true e = eq-eqb _ _ (ext 64 _ _ (lt-of-le-of-lt (and-le-l (m .local) (m .present)) hl) hl (meet e))
-        same false e = ne-eqb _ _ (λ q. false-true (sym e ∙ every-of in? 63 (each q)))
+        same false e = ne-eqb _ _ (λ q. false≢true (sym e ∙ every-all in? 63 (each q)))
     go true x false y = refl
     go false x b y = refl

@@ -2,7 +2,7 @@
 -- Assumes nothing.
 use Prim.Native.Nat.{ℕ, suc, _+_, _-_, _/_, _%_, _^_, _≤_, _<_}
 use mathlib.Core.Path.{_≡_, refl, sym, ap, ap₂, _∙_}
-use mathlib.Core.Bool.{Bool, true, false, cond, not, _&&_, _||_, or-assoc, or-false}
+use mathlib.Core.Bool.{Bool, true, false, cond, not, _&&_, _||_, or-assoc, or-false, false≢true}
 use mathlib.Core.List.{List, [], _∷_, map}
 use native.Mathlib.Nat.{pow-suc, add-zero}
 use native.Mathlib.Numerals.{add-one}
@@ -11,7 +11,7 @@ use borrow.Author.Tests.{lt-ltb, eq-eqb, ne-eqb, ltb-true, ltb-false, eqb-true, 
 use lib.Dec.{eqb, ltb, leb}
 use lib.ListN.{length}
 use lib.Pow.{pow-mono}
-use Rattle.octets.specs.Fields.{false-true, and-l, and-r}
+use Rattle.octets.specs.Fields.{and-l, and-r}
 use Rattle.systems.specs.Set.{member, maskOf}
 use Rattle.systems.specs.Laws.{mask-lt}
 use Rattle.model.specs.Basics.{all}
@@ -78,7 +78,7 @@ not-past : (x p : ℕ) (r : Bool) → r ≡ (eqb x 0 || ltb p (x / 2 ^ 20)) → 
 not-past x p r hr f = go (eqb x 0) refl (sym hr ∙ f)
   where
     go : (b : Bool) → eqb x 0 ≡ b → (b || ltb p (x / 2 ^ 20)) ≡ false → (x ≡ 0 → ⊥) × (x / 2 ^ 20 ≤ p)
-    go true e h = absurd (false-true (sym h))
+    go true e h = absurd (false≢true (sym h))
     go false e h = (eqb-false x 0 e, ltb-false p (x / 2 ^ 20) h)
 
 module _ (bs : List ℕ) (p i x : ℕ) (r : Bool) (h : i < rowPlaces) (hx : x ≡ filterPlace bs i) (hr : r ≡ (eqb x 0 || ltb p (x / 2 ^ 20))) (f : r ≡ false) where

@@ -8,10 +8,6 @@ ghost use Rattle.model.specs.Selection.{selects};
 ghost use Rattle.books.specs.Packed.{decodeBooks, soundBytes};
 use model::Marks;
 
-const FILTERS_AT: usize = 4104;
-
-const ROW_PLACES: usize = 1024;
-
 // Whether a filter's place is behind all of the provider's: free, or another's who comes later.
 fn past(w: u64, provider: u8) -> bool
     ensures { λ r. ⌜ r ≡ (eqb w 0 || ltb provider (w / 2 ^ 20)) ⌝ }

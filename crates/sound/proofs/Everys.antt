@@ -1,15 +1,15 @@
 -- What holds of each system: sets apart, and retries. Assumes nothing.
 use mathlib.Core.Path.{_≡_, refl, sym, ap, _∙_, subst}
 use mathlib.Core.Bool.{Bool, true, false, cond, not, _&&_, _||_, or-true}
-use Prim.Native.Nat.{ℕ, zero, suc, _+_, _/_, _%_, _^_, _≤_, _<_}
+use Prim.Native.Nat.{ℕ, zero, suc, _+_, _%_, _^_, _≤_, _<_}
 use native.Mathlib.Nat.{zero-div, mod-lt, div-one, mod-mod, lt-of-le-of-lt}
 use native.Mathlib.Numerals.{add-one}
 use native.Mathlib.Omega.{arith}
 use borrow.Author.Tests.{ltb-true, ltb-false, eq-eqb}
 use lib.Dec.{eqb, ltb, lit<}
-use lib.Bits.{bitAnd, and-shr, and-mod, and-le-l}
+use lib.Bits.{bitAnd, and-le-l}
 use Rattle.systems.specs.Set.{member}
-use Rattle.systems.specs.Laws.{member-high, ext}
+use Rattle.systems.specs.Laws.{member-high, member-and, ext}
 use Rattle.model.specs.declared.Retries.{Retries}
 use Rattle.model.specs.declared.Broadcast.{Broadcast}
 use Rattle.model.specs.Basics.{every}
@@ -29,22 +29,6 @@ module _ (f : ℕ → Bool) where
   every-more n e h = rw add-one (rw (e, rw add-one at h))
 
 -- ---- sets apart
-
-min-one : (u v : ℕ) → u < 2 → v < 2 → eqb (bitAnd u v) 1 ≡ eqb u 1 && eqb v 1
-min-one zero v h k = refl
-min-one (suc zero) zero h k = refl
-min-one (suc zero) (suc zero) h k = refl
-min-one (suc zero) (suc (suc v)) h k = absurd (omega arith)
-min-one (suc (suc u)) v h k = absurd (omega arith)
-
-pub member-and : (a b p : ℕ) → member (bitAnd a b) p ≡ member a p && member b p
-unfolding member
-member-and a b p =
-    let x : ℕ = a / 2 ^ p in
-    let y : ℕ = b / 2 ^ p in
-    ap (λ (k : ℕ). eqb (k % 2) 1) (and-shr a b p)
-    ∙ ap (λ (k : ℕ). eqb k 1) (and-mod x y 1)
-    ∙ min-one (x % 2) (y % 2) (mod-lt x (lit< tt)) (mod-lt y (lit< tt))
 
 member-low : (s : ℕ) → member s 0 ≡ member (s % 2) 0
 unfolding member

@@ -3,8 +3,8 @@
 use mathlib.Core.Path.{_≡_, refl, sym, ap, ap₂, _∙_, subst}
 use mathlib.Core.Bool.{Bool, true, false, cond, _&&_}
 use Prim.Native.Nat.{ℕ, zero, suc, _+_, _-_, _*_, _/_, _%_, _^_, _≤_, _<_}
-use native.Mathlib.Nat.{mod-lt, div-add-mod', pow-suc, le-div-iff-mul-le, add-comm, one-mul, add-zero, add-mul, mod-eq-of-lt, mod-one, div-eq-of-lt, add-div-right, add-mul-div-right, lt-of-lt-of-le, lt-of-le-of-lt, pow-le-pow-right, pow-zero, div-one}
-use native.Mathlib.Numerals.{add-one, one-add}
+use native.Mathlib.Nat.{mod-lt, div-add-mod', pow-suc, le-div-iff-mul-le, one-mul, add-zero, add-mul, mod-eq-of-lt, mod-one, div-eq-of-lt, add-div-right, add-mul-div-right, lt-of-lt-of-le, pow-le-pow-right, pow-zero, div-one}
+use native.Mathlib.Numerals.{one-add}
 use native.Mathlib.Omega.{arith}
 use borrow.Author.Tests.{eqb-true, eqb-false, eq-eqb, ltb-true, ltb-false}
 use lib.Dec.{eqb, ltb, lit<}
@@ -164,12 +164,6 @@ mask-member f (suc n) p h k = go (mask-member f n p h) (eqb p (suc n)) refl
         low (f (suc n)) l ∙ ih (omega arith)
 
 -- ---- one provider put in, or taken out
-
-pub with-same : (s p : ℕ) → member s p ≡ false → member (s + 2 ^ p) p ≡ true
-unfolding digit
-with-same s p h =
-    let d : (s / 2 ^ p) % 2 ≡ 0 = out→digit s p h in
-    digit-in _ p (rw (add-div-right s (pow-pos p)) (omega arith))
 
 pub with-other : (s p q : ℕ) → member s p ≡ false → (q ≡ p → ⊥) → member (s + 2 ^ p) q ≡ member s q
 unfolding digit

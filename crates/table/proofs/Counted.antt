@@ -1,6 +1,6 @@
 -- What each number has at most once, over any test of a version: row by row, and counted. Assumes nothing.
 use mathlib.Core.Path.{_≡_, refl, sym, ap, ap₂, subst}
-use mathlib.Core.Bool.{Bool, true, false, cond}
+use mathlib.Core.Bool.{Bool, true, false, cond, false≢true}
 use mathlib.Core.Logic.{_⊎_, inl, inr, ⊎-elim}
 use mathlib.Core.List.{List, [], _∷_}
 use Prim.Native.Nat.{ℕ, _+_, _/_, _≤_, _<_}
@@ -8,7 +8,6 @@ use native.Mathlib.Nat.{ne-of-gt}
 use native.Mathlib.Omega.{arith}
 use borrow.Author.Tests.{eq-eqb, ne-eqb, eqb-true, eqb-false, leb-true, le-leb}
 use lib.Dec.{eqb, leb}
-use Rattle.octets.specs.Fields.{false-true}
 use Rattle.model.specs.declared.Version.{Version}
 use Rattle.model.specs.Basics.{all}
 use Rattle.model.specs.Table.{rowsOf}
@@ -32,7 +31,7 @@ one-le false b = omega arith
 
 -- not both: together they count as either
 sum-le : (c f x : Bool) → second true f x ≡ false → one c x + one c f ≤ one c (either true f x)
-sum-le true true true h = absurd (false-true (sym h))
+sum-le true true true h = absurd (false≢true (sym h))
 sum-le true true false h = omega arith
 sum-le true false true h = omega arith
 sum-le true false false h = omega arith

@@ -1,6 +1,6 @@
 -- The versions of one number stand together; finding a name among them, and the others. Assumes nothing.
 use mathlib.Core.Path.{_≡_, refl, sym, ap, _∙_}
-use mathlib.Core.Bool.{Bool, true, false, cond, not}
+use mathlib.Core.Bool.{Bool, true, false, cond, not, false≢true}
 use mathlib.Core.Option.{none, some}
 use mathlib.Core.List.{List, [], _∷_}
 use Prim.Native.Nat.{ℕ, _+_, _*_, _/_, _≤_, _<_, Ordering, Ordering·lt, Ordering·eq, Ordering·gt}
@@ -9,7 +9,6 @@ use native.Mathlib.Omega.{arith}
 use borrow.Author.Tests.{eq-eqb, ne-eqb, le-ltb, eqb-true, ltb-true, ltb-false}
 use lib.Dec.{eqb, ltb}
 use lib.Seq.{slice}
-use Rattle.octets.specs.Fields.{false-true}
 use Rattle.model.specs.declared.Id.{Id}
 use Rattle.model.specs.declared.Version.{Version}
 use Rattle.model.specs.Basics.{keep, first}
@@ -123,7 +122,7 @@ not-named k v = go (named k v) refl
   where
     other : (o : Ordering) → order (v .id) k ≡ o → named k v ≡ false → sel o true false true ≡ true
     other Ordering·lt e q = refl
-    other Ordering·eq e q = absurd (false-true (sym q ∙ is-named k v (order-eq (v .id) k e)))
+    other Ordering·eq e q = absurd (false≢true (sym q ∙ is-named k v (order-eq (v .id) k e)))
     other Ordering·gt e q = refl
 
     go : (b : Bool) → named k v ≡ b → notNamed k (v .id) ≡ not b

@@ -1,6 +1,6 @@
 -- Lists of sound versions, and lists whose keys rise. Assumes nothing.
 use mathlib.Core.Path.{_≡_, refl, ap}
-use mathlib.Core.Bool.{Bool, true, false}
+use mathlib.Core.Bool.{Bool, true, false, false≢true}
 use mathlib.Core.List.{List, [], _∷_}
 use mathlib.Core.Logic.{_⊎_, inl, inr, ⊎-elim}
 use Prim.Native.Nat.{ℕ, zero, suc, _≤_, _<_, compare, Ordering, Ordering·lt, Ordering·eq, Ordering·gt}
@@ -9,7 +9,6 @@ use native.Mathlib.Omega.{arith}
 use borrow.Author.Tests.{leb-true, leb-false, eqb-true, eqb-false}
 use lib.Dec.{isLe, isEq}
 use lib.ListN.{length, getD}
-use Rattle.octets.specs.Fields.{false-true}
 use Rattle.model.specs.declared.Id.{Id}
 use Rattle.model.specs.declared.Version.{Version}
 use Rattle.model.specs.Basics.{all}
@@ -100,8 +99,8 @@ RisingFrom k (v ∷ vs) = (k < keyOf (v .id)) × RisingFrom (keyOf (v .id)) vs
 
 sel-true : (o : Ordering) (x : Bool) → sel o x false false ≡ true → (o ≡ Ordering·lt) × (x ≡ true)
 sel-true Ordering·lt x e = (refl, e)
-sel-true Ordering·eq x e = absurd (false-true e)
-sel-true Ordering·gt x e = absurd (false-true e)
+sel-true Ordering·eq x e = absurd (false≢true e)
+sel-true Ordering·gt x e = absurd (false≢true e)
 
 pub above-rises : (k : Id) (vs : List Version) → k .number < 65536 → AllSound vs → above k vs ≡ true → RisingFrom (keyOf k) vs
 above-rises k [] h a e = tt

@@ -2,15 +2,16 @@
 -- Assumes nothing.
 use borrow.Author.Needs.{needs}
 use Prim.Native.Nat.{_-_}
-use mathlib.Core.Path.{_≡_, refl, sym, _∙_}
+use mathlib.Core.Path.{_≡_, refl, sym, ap, _∙_}
 use Rattle.model.specs.Books.{ownerOf}
 use Rattle.books.specs.Packed.{codePlace, rowPlaces}
-use Rattle.books.specs.Search.{ownerFrom, owner-free, owner-here, owner-next, owner-end}
+use Rattle.books.specs.Places.{restOf, used-none, used-more, used-end}
+use Rattle.books.specs.Search.{ownerBy, owner-here, owner-next}
 use Rattle.books.proofs.owner.Statement.{statement}
 use Rattle.books.proofs.owner.Tie as tie
 
 abbrev Inv-loop : tie.InvT-loop
-Inv-loop books code i₀ i = ownerFrom (codePlace books) rowPlaces 0 code ≡ ownerFrom (codePlace books) rowPlaces i code
+Inv-loop books code i₀ i = ownerBy code (restOf (codePlace books) rowPlaces 0) ≡ ownerBy code (restOf (codePlace books) rowPlaces i)
 
 abbrev μ-loop : tie.MeasureT-loop
 μ-loop books code i₀ i = rowPlaces - i
@@ -30,10 +31,7 @@ u32-at-requires c κs = search needs
 returns : tie.Need-returns Inv-loop μ-loop
 unfolding ownerOf
 returns c =
-    let d = c .before in
-    let a = d .before .before .before .before .args in
-    let l = d .before .before .loop in
-    λ m. sym (l .inv ∙ owner-free (codePlace (a .books .now)) rowPlaces (l .i) _ (a .code) (d .u32-at .ensures) (c .if1 .taken))
+    λ m. sym (c .before .before .before .loop .inv ∙ ap (ownerBy _) (used-none (codePlace _) rowPlaces _ _ (c .before .u32-at .ensures) (c .if1 .taken)))
 
 cast-result : tie.Need-cast-result Inv-loop μ-loop
 cast-result c = search needs
@@ -41,10 +39,7 @@ cast-result c = search needs
 returns-2 : tie.Need-returns-2 Inv-loop μ-loop
 unfolding ownerOf
 returns-2 c =
-    let d = c .before .before in
-    let a = d .before .before .before .before .args in
-    let l = d .before .before .loop in
-    λ m. sym (l .inv ∙ owner-here (codePlace (a .books .now)) rowPlaces (l .i) _ (a .code) (d .before .loop-test .taken) (d .u32-at .ensures) (c .before .if1 .left) (c .if2 .taken))
+    λ m. sym (c .before .before .before .before .loop .inv ∙ owner-here _ (used-more (codePlace _) rowPlaces _ _ (c .before .before .before .loop-test .taken) (c .before .before .u32-at .ensures) (c .before .if1 .left)) (c .if2 .taken))
 
 add-i : tie.Need-add-i Inv-loop μ-loop
 add-i c = search needs
@@ -54,17 +49,12 @@ loop-less c = search needs
 
 loop-again : tie.Need-loop-again Inv-loop μ-loop
 loop-again c =
-    let d = c .before .before in
-    let a = d .before .before .before .before .args in
-    let l = d .before .before .loop in
-    l .inv ∙ owner-next (codePlace (a .books .now)) rowPlaces (l .i) _ (a .code) (d .before .loop-test .taken) (d .u32-at .ensures) (c .before .if1 .left) (c .if2 .left)
+    c .before .before .before .before .loop .inv ∙ owner-next _ (used-more (codePlace _) rowPlaces _ _ (c .before .before .before .loop-test .taken) (c .before .before .u32-at .ensures) (c .before .if1 .left)) (c .if2 .left)
 
 returns-3 : tie.Need-returns-3 Inv-loop μ-loop
 unfolding ownerOf
 returns-3 c =
-    let a = c .before .before .before .args in
-    let l = c .before .loop in
-    λ m. sym (l .inv ∙ owner-end (codePlace (a .books .now)) rowPlaces (l .i) (a .code) (c .loop-test .left))
+    λ m. sym (c .before .loop .inv ∙ ap (ownerBy _) (used-end (codePlace _) rowPlaces _ (c .loop-test .left)))
 
 pub owner-spec : {M : Type 1} → statement M
 owner-spec =

@@ -2,15 +2,16 @@
 -- Assumes nothing.
 use borrow.Author.Needs.{needs}
 use Prim.Native.Nat.{_-_}
-use mathlib.Core.Path.{_≡_, refl, sym, _∙_}
+use mathlib.Core.Path.{_≡_, refl, sym, ap, _∙_}
 use Rattle.model.specs.Books.{partnerOf}
 use Rattle.books.specs.Packed.{splitPlace, splitPlaces}
-use Rattle.books.specs.Search.{partnerFrom, partner-free, partner-one, partner-other, partner-next, partner-end}
+use Rattle.books.specs.Places.{restOf, used-none, used-more, used-end}
+use Rattle.books.specs.Search.{partnerBy, partner-one, partner-other, partner-next}
 use Rattle.books.proofs.partner.Statement.{statement}
 use Rattle.books.proofs.partner.Tie as tie
 
 abbrev Inv-loop : tie.InvT-loop
-Inv-loop books code i₀ i = partnerFrom (splitPlace books) splitPlaces 0 code ≡ partnerFrom (splitPlace books) splitPlaces i code
+Inv-loop books code i₀ i = partnerBy code (restOf (splitPlace books) splitPlaces 0) ≡ partnerBy code (restOf (splitPlace books) splitPlaces i)
 
 abbrev μ-loop : tie.MeasureT-loop
 μ-loop books code i₀ i = splitPlaces - i
@@ -30,26 +31,17 @@ u64-at-requires c κs = search needs
 returns : tie.Need-returns Inv-loop μ-loop
 unfolding partnerOf
 returns c =
-    let d = c .before in
-    let a = d .before .before .before .before .args in
-    let l = d .before .before .loop in
-    λ m. sym (l .inv ∙ partner-free (splitPlace (a .books .now)) splitPlaces (l .i) _ (a .code) (d .u64-at .ensures) (c .if1 .taken))
+    λ m. sym (c .before .before .before .loop .inv ∙ ap (partnerBy _) (used-none (splitPlace _) splitPlaces _ _ (c .before .u64-at .ensures) (c .if1 .taken)))
 
 returns-2 : tie.Need-returns-2 Inv-loop μ-loop
 unfolding partnerOf
 returns-2 c =
-    let d = c .before .before in
-    let a = d .before .before .before .before .args in
-    let l = d .before .before .loop in
-    λ m. sym (l .inv ∙ partner-one (splitPlace (a .books .now)) splitPlaces (l .i) _ (a .code) (d .before .loop-test .taken) (d .u64-at .ensures) (c .before .if1 .left) (c .if2 .taken))
+    λ m. sym (c .before .before .before .before .loop .inv ∙ partner-one _ (used-more (splitPlace _) splitPlaces _ _ (c .before .before .before .loop-test .taken) (c .before .before .u64-at .ensures) (c .before .if1 .left)) (c .if2 .taken))
 
 returns-3 : tie.Need-returns-3 Inv-loop μ-loop
 unfolding partnerOf
 returns-3 c =
-    let d = c .before .before .before in
-    let a = d .before .before .before .before .args in
-    let l = d .before .before .loop in
-    λ m. sym (l .inv ∙ partner-other (splitPlace (a .books .now)) splitPlaces (l .i) _ (a .code) (d .before .loop-test .taken) (d .u64-at .ensures) (c .before .before .if1 .left) (c .before .if2 .left) (c .if3 .taken))
+    λ m. sym (c .before .before .before .before .before .loop .inv ∙ partner-other _ (used-more (splitPlace _) splitPlaces _ _ (c .before .before .before .before .loop-test .taken) (c .before .before .before .u64-at .ensures) (c .before .before .if1 .left)) (c .before .if2 .left) (c .if3 .taken))
 
 add-i : tie.Need-add-i Inv-loop μ-loop
 add-i c = search needs
@@ -59,17 +51,12 @@ loop-less c = search needs
 
 loop-again : tie.Need-loop-again Inv-loop μ-loop
 loop-again c =
-    let d = c .before .before .before in
-    let a = d .before .before .before .before .args in
-    let l = d .before .before .loop in
-    l .inv ∙ partner-next (splitPlace (a .books .now)) splitPlaces (l .i) _ (a .code) (d .before .loop-test .taken) (d .u64-at .ensures) (c .before .before .if1 .left) (c .before .if2 .left) (c .if3 .left)
+    c .before .before .before .before .before .loop .inv ∙ partner-next _ (used-more (splitPlace _) splitPlaces _ _ (c .before .before .before .before .loop-test .taken) (c .before .before .before .u64-at .ensures) (c .before .before .if1 .left)) (c .before .if2 .left) (c .if3 .left)
 
 returns-4 : tie.Need-returns-4 Inv-loop μ-loop
 unfolding partnerOf
 returns-4 c =
-    let a = c .before .before .before .args in
-    let l = c .before .loop in
-    λ m. sym (l .inv ∙ partner-end (splitPlace (a .books .now)) splitPlaces (l .i) (a .code) (c .loop-test .left))
+    λ m. sym (c .before .loop .inv ∙ ap (partnerBy _) (used-end (splitPlace _) splitPlaces _ (c .loop-test .left)))
 
 pub partner-spec : {M : Type 1} → statement M
 partner-spec =

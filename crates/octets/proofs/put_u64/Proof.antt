@@ -1,3 +1,5 @@
+-- `octets::put_u64` meets its contract: eight bytes are stored from the last to the first, which is what `puts` does.
+-- Assumes nothing.
 use borrow.Author.Needs.{needs}
 use native.Mathlib.Omega.{arith}
 use native.Mathlib.Nat.{add-zero}
@@ -5,106 +7,79 @@ use lib.ListN.{length-set}
 use Rattle.octets.specs.Laws.{puts, puts-put}
 use Rattle.octets.proofs.put_u64.Statement.{statement}
 use Rattle.octets.proofs.put_u64.Tie as tie
-use Rattle.octets.proofs.put_u64.Reads as reads
-use Rattle.octets.proofs.put_u64.Lts as lts
 
--- src/lib.rt:48:17
 cast-s : tie.Need-cast-s
 cast-s c = search needs
 
--- src/lib.rt:48:7
 add-s : tie.Need-add-s
 add-s c = search needs
 
--- src/lib.rt:48:5
 slice-write-s : tie.Need-slice-write-s
 slice-write-s c = search needs
 
--- src/lib.rt:50:17
 cast-s-2 : tie.Need-cast-s-2
 cast-s-2 c = search needs
 
--- src/lib.rt:50:7
 add-s-2 : tie.Need-add-s-2
 add-s-2 c = search needs
 
--- src/lib.rt:50:5
 slice-write-s-2 : tie.Need-slice-write-s-2
 slice-write-s-2 c = simp length-set (omega arith)
 
--- src/lib.rt:52:17
 cast-s-3 : tie.Need-cast-s-3
 cast-s-3 c = search needs
 
--- src/lib.rt:52:7
 add-s-3 : tie.Need-add-s-3
 add-s-3 c = search needs
 
--- src/lib.rt:52:5
 slice-write-s-3 : tie.Need-slice-write-s-3
 slice-write-s-3 c = simp length-set (omega arith)
 
--- src/lib.rt:54:17
 cast-s-4 : tie.Need-cast-s-4
 cast-s-4 c = search needs
 
--- src/lib.rt:54:7
 add-s-4 : tie.Need-add-s-4
 add-s-4 c = search needs
 
--- src/lib.rt:54:5
 slice-write-s-4 : tie.Need-slice-write-s-4
 slice-write-s-4 c = simp length-set (omega arith)
 
--- src/lib.rt:56:17
 cast-s-5 : tie.Need-cast-s-5
 cast-s-5 c = search needs
 
--- src/lib.rt:56:7
 add-s-5 : tie.Need-add-s-5
 add-s-5 c = search needs
 
--- src/lib.rt:56:5
 slice-write-s-5 : tie.Need-slice-write-s-5
 slice-write-s-5 c = simp length-set (omega arith)
 
--- src/lib.rt:58:17
 cast-s-6 : tie.Need-cast-s-6
 cast-s-6 c = search needs
 
--- src/lib.rt:58:7
 add-s-6 : tie.Need-add-s-6
 add-s-6 c = search needs
 
--- src/lib.rt:58:5
 slice-write-s-6 : tie.Need-slice-write-s-6
 slice-write-s-6 c = simp length-set (omega arith)
 
--- src/lib.rt:60:17
 cast-s-7 : tie.Need-cast-s-7
 cast-s-7 c = search needs
 
--- src/lib.rt:60:7
 add-s-7 : tie.Need-add-s-7
 add-s-7 c = search needs
 
--- src/lib.rt:60:5
 slice-write-s-7 : tie.Need-slice-write-s-7
 slice-write-s-7 c = simp length-set (omega arith)
 
--- src/lib.rt:62:13
 cast-s-8 : tie.Need-cast-s-8
 cast-s-8 c = search needs
 
--- src/lib.rt:62:5
 slice-write-s-8 : tie.Need-slice-write-s-8
 slice-write-s-8 c = simp length-set (omega arith)
 
--- src/lib.rt:44:1
 same-length : tie.Need-same-length
 same-length c = simp length-set
 
--- src/lib.rt:44:1
 returns : tie.Need-returns
 unfolding puts
 returns c = rw add-zero at (puts-put 8 (c .args .s .now) (c .args .at) (c .args .v) (c .pre))

