@@ -4,6 +4,7 @@ use crate::judge;
 use model::Event;
 use model::Id;
 use model::Marks;
+use row::ROW;
 use table::survey::Facts;
 use table::survey::Seen;
 ghost use mathlib.Core.Path.{_≡_};
@@ -42,7 +43,7 @@ fn on_create(
 {
     let gone = judge::absent(marks, e);
     let owner = books::owner(books, e.tn.0 / 10000);
-    let free = n < table.len() / 80;
+    let free = n < table.len() / ROW;
     let o = judge::create(e, gone, owner, f, free);
     let outcome = judge::number(o);
     if outcome != 0 {
