@@ -11,8 +11,8 @@ use lib.ListN.{length, getD}
 use mathlib.Core.List.{_∷_}
 use borrow.Author.Tests.{eqb-true, ltb-true, not-false}
 use Rattle.systems.specs.Set.{member}
-use Rattle.model.specs.Basics.{All, first, with}
-use Rattle.model.specs.Table.{Change, put, rowsOf, find, others}
+use Rattle.model.specs.Basics.{All, first}
+use Rattle.model.specs.Table.{put, rowsOf, find, others}
 use Rattle.model.specs.Record.{isCreate, isAnswer, wellFormed}
 use Rattle.model.specs.Outcomes.{isDone, numberOf, judge, orderOf}
 use Rattle.model.specs.Given.{Given, Result, nameIn, found}
@@ -43,7 +43,7 @@ use Rattle.engine.specs.Event.{givenTo}
 use Rattle.engine.specs.Judged.{absentIn, unknownBy, answerFor}
 use Rattle.engine.proofs.Fits.{row-tellable}
 use Rattle.engine.proofs.Judging.{answer-judged, unknown-judged}
-use Rattle.engine.proofs.Manages.{put-fit}
+use Rattle.engine.proofs.Manages.{put-fit, tail-of}
 use Rattle.engine.proofs.Deciding.{ground, rule-rows}
 use Rattle.model.specs.declared.Id.{Id}
 use Rattle.model.specs.declared.Event.{Event}
@@ -98,9 +98,6 @@ unfolding heard
 heard-tellable most e v r =
     let s = row-tellable v r in
     record { tn = s .tn; status = s .status; old = s .old; new = s .new; lrn = s .lrn }
-
-tail-of : {x : Change} {xs : List Change} → All (Brings Row) (x ∷ xs) → All (Brings Row) xs
-tail-of (with p ps) = ps
 
 -- ---- the version that the event names
 module _ (m : Marks) (b : List ℕ) (most : ℕ) (t : List ℕ) (n : ℕ) (e : Event) (f : Facts) (st : SoundTable t n) (sv : Surveyed (decode t) (nameIn e) f) where

@@ -33,7 +33,7 @@ use Rattle.table.specs.Survey.{Surveyed, theOne}
 use Rattle.table.specs.declared.survey.Facts.{Facts}
 use Rattle.tray.specs.Tray.{putAll}
 use Rattle.engine.specs.Act.{Acted, Creatable}
-use Rattle.engine.specs.Event.{Ready, Did, givenTo}
+use Rattle.engine.specs.Event.{Ready, Did, givenTo, doneWith}
 use Rattle.engine.specs.Judged.{createFor, absentIn}
 use Rattle.engine.specs.declared.event.Answer.{Answer}
 use Rattle.engine.proofs.Judging.{zero-done, other-refused, create-judged}
@@ -67,10 +67,10 @@ rule-accepts g o k e q z = (on, rw on)
     on : isDone (judge (refuses g) (orderOf (g .event .kind))) ≡ true
     on = ap isDone (sym e ∙ zero-done o (sym q ∙ z))
 
-pub did-acted : (g : Given) (x : Result) (t y u z : List ℕ) (r c : ℕ) → rule g ≡ x → x .out ≡ Done → c ≡ r → Acted x t y u z r → Did (rule g) t y u z (record { outcome = 0; count = c })
-did-acted g x t y u z r c e d q a =
-    subst (λ (b : Result). Did b t y u z (record { outcome = 0; count = c })) (sym e)
-    (record { outcome = sym (ap numberOf d); count = q ∙ a .told .said; table = rw d (a .table); tray = a .told .tray })
+pub did-acted : (g : Given) (x : Result) (t y u z : List ℕ) (r : ℕ) (k : Answer) → rule g ≡ x → x .out ≡ Done → k ≡ doneWith r → Acted x t y u z r → Did (rule g) t y u z k
+did-acted g x t y u z r k e d q a =
+    subst (λ (b : Result). Did b t y u z k) (sym e)
+    (subst (Did x t y u z) (sym q) (record { outcome = sym (ap numberOf d); count = a .told .said; table = rw d (a .table); tray = a .told .tray }))
 
 -- ---- over a sound table
 module _ (m : Marks) (b : List ℕ) (most : ℕ) (t : List ℕ) (n : ℕ) (e : Event) (few : most ≤ 7) (st : SoundTable t n) (formed : wellFormed e ≡ true) where

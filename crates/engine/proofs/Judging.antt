@@ -2,7 +2,7 @@
 -- Assumes nothing.
 use mathlib.Core.Path.{_≡_, refl, sym, ap, _∙_, subst}
 use Prim.Native.Nat.{ℕ}
-use mathlib.Core.Bool.{Bool, true, false, cond, not, _&&_, _||_}
+use mathlib.Core.Bool.{Bool, true, false, cond, not, _&&_, _||_, or-false}
 use mathlib.Core.Option.{Option, none, some}
 use mathlib.Core.List.{List, [], _∷_}
 use lib.Dec.{eqb, ltb, leb}
@@ -80,10 +80,6 @@ create-answer k h = go (eqb k 1) refl (eqb k 2) refl
 no-due : (e : Event) (o : Option Version) → eqb (e .kind) 5 ≡ false → holds o (beforeDue e) ≡ false
 no-due e none h = refl
 no-due e (some v) h = rw h
-
-or-false : (b : Bool) → (b || false) ≡ b
-or-false true = refl
-or-false false = refl
 
 -- ---- the three orders
 

@@ -154,6 +154,10 @@ module _ (m : Marks) (b : List ℕ) (t : List Version) (n i : ℕ) (e : Event) (
     few = g .few k;
   }
 
+-- what all the changes bring, the later ones bring
+pub tail-of : {x : Change} {xs : List Change} → All (Brings Row) (x ∷ xs) → All (Brings Row) xs
+tail-of (with p ps) = ps
+
 -- a broadcast: w settles in the row of v
 module _ (m : Marks) (b : List ℕ) (t : List Version) (n i : ℕ) (e : Event) (v : Version) (lives : Seen) (g : Broadcastable m b t n i e v lives) where
   abbrev W : Version
@@ -167,9 +171,6 @@ module _ (m : Marks) (b : List ℕ) (t : List Version) (n i : ℕ) (e : Event) (
     live = g .live;
     rows = tail-of (g .rows);
   }
-    where
-      tail-of : {x : Change} {xs : List Change} → All (Brings Row) (x ∷ xs) → All (Brings Row) xs
-      tail-of (with p ps) = ps
 
 -- a purge: nothing told
 pub purged : (t : List ℕ) (y u : List ℕ) (i : ℕ) (v : Version) (x : Result) → versionAt (decode t) i ≡ v → x ≡ purges v

@@ -38,6 +38,10 @@ pub record Ready (m : Marks) (b : List ℕ) (e : Event) (k : ℕ) : Type 0 where
 abbrev pub tableAfter : Result → List ℕ → List ℕ
 tableAfter x t = cond (isDone (x .out)) (encode (changes (x .does) (decode t)) (rowsIn t)) t
 
+-- the answer to an event that is done
+abbrev pub doneWith : ℕ → Answer
+doneWith n = record { outcome = 0; count = n }
+
 -- the outcome's number, the count, the table and the tray are those of the result
 pub record Did (x : Result) (t y after trayAfter : List ℕ) (a : Answer) : Type 0 where
   pub outcome : a .outcome ≡ numberOf (x .out)

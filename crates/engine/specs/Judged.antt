@@ -5,28 +5,28 @@ use mathlib.Core.Bool.{Bool, true, false, cond, not, _&&_, _||_}
 use mathlib.Core.Option.{Option, none, some}
 use mathlib.Core.List.{List, [], _∷_}
 use lib.Dec.{eqb, ltb, leb}
-use Rattle.systems.specs.Set.{member}
 use Rattle.model.specs.Basics.{among, holds, isNone}
 use Rattle.model.specs.Record.{isBroadcast}
 use Rattle.model.specs.Sound.{failure}
 use Rattle.model.specs.Standing.{lacksStanding, wrongStatus}
 use Rattle.model.specs.Creates.{oldIn, currentOr, fits}
 use Rattle.model.specs.Answers.{awaited}
-use Rattle.model.specs.Refusals.{beforeStart, beforeDue, idle}
+use Rattle.model.specs.Refusals.{missing, absent, beforeStart, beforeDue, idle}
 use Rattle.model.specs.declared.Event.{Event}
 use Rattle.model.specs.declared.Version.{Version}
 use Rattle.model.specs.declared.Marks.{Marks}
 use Rattle.model.specs.declared.Outcome.{Outcome}
 use Rattle.model.specs.declared.Outcome.the-variants.{Done, Absent, Unlisted, Unknown, Standless, Misplaced, Early, Unfit, Busy, Unawaited, NotCurrent, Full, Exhausted}
+use Rattle.books.specs.Packed.{decodeBooks}
 use Rattle.table.specs.declared.survey.Facts.{Facts}
 use Rattle.table.specs.Survey.{theOne}
 
--- sender or other is not 0 and not present
+-- sender or other is not 0 and not present, of which the marks alone decide [O3]
 abbrev pub missingIn : Marks → ℕ → Bool
-missingIn m p = not (eqb p 0) && not (member (m .present) p)
+missingIn m p = missing (decodeBooks m []) p
 
 abbrev pub absentIn : Marks → Event → Bool
-absentIn m e = missingIn m (e .sender) || missingIn m (e .other)
+absentIn m e = absent (decodeBooks m []) e
 
 -- creates: 3, 4, 10, 8, 12, 9, 14, 13 [O6]
 abbrev pub createBy : Bool → Bool → Bool → Bool → Bool → Bool → Bool → Bool → Outcome

@@ -183,7 +183,7 @@ fn broadcast(
 fn is_modify(kind: u8) -> bool
     ensures { λ r. ⌜ r ≡ among kind (3 ∷ 4 ∷ []) ⌝ }
 {
-    (kind == 3) | ((kind == 4) | false)
+    (kind == 3) | (kind == 4)
 }
 
 // An accepted event of kinds 3 to 10 and 13 to 15 for v, at place i.

@@ -4,6 +4,7 @@ use crate::judge;
 use model::Event;
 use model::Id;
 use model::Marks;
+use row::ROW;
 use table::survey::Facts;
 use table::survey::Seen;
 ghost use mathlib.Core.Path.{_≡_};
@@ -17,13 +18,23 @@ ghost use Rattle.table.specs.Table.{decode};
 ghost use Rattle.table.specs.Sound.{SoundTable};
 ghost use Rattle.table.specs.Survey.{Surveyed};
 ghost use Rattle.tray.specs.Tray.{placesIn};
-ghost use Rattle.engine.specs.Event.{Ready, Did, givenTo};
+ghost use Rattle.engine.specs.Event.{Ready, Did, givenTo, doneWith};
 
 // The paper's number of the outcome, and how many messages stand in the tray.
 #[repr(C)]
 pub struct Answer {
     pub outcome: u64,
     pub count: u64,
+}
+
+// An event that is done, and so many messages.
+fn done(count: usize) -> Answer
+    ensures { λ r. ⌜ r ≡ doneWith count ⌝ }
+{
+    Answer {
+        outcome: 0,
+        count: count as u64,
+    }
 }
 
 // Kinds 1 and 2.
@@ -42,17 +53,14 @@ fn on_create(
 {
     let gone = judge::absent(marks, e);
     let owner = books::owner(books, e.tn.0 / 10000);
-    let free = n < table.len() / 80;
+    let free = n < table.len() / ROW;
     let o = judge::create(e, gone, owner, f, free);
     let outcome = judge::number(o);
     if outcome != 0 {
         return Answer { outcome, count: 0 };
     }
     let count = act::created(table, n, e, f, tray);
-    Answer {
-        outcome: 0,
-        count: count as u64,
-    }
+    done(count)
 }
 
 // Kinds 11 and 12.
@@ -81,10 +89,7 @@ fn on_answer(
                 return Answer { outcome, count: 0 };
             }
             let count = act::put_answered(most, table, n, i, e, v, lives, tray);
-            Answer {
-                outcome: 0,
-                count: count as u64,
-            }
+            done(count)
         }
         Seen::Nobody => {
             let o = judge::unknown(gone);
@@ -120,10 +125,7 @@ fn on_other(
                 return Answer { outcome, count: 0 };
             }
             let count = act::manage(marks, books, table, n, i, e, v, lives, tray);
-            Answer {
-                outcome: 0,
-                count: count as u64,
-            }
+            done(count)
         }
         Seen::Nobody => {
             let o = judge::unknown(gone);

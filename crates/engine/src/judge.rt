@@ -221,7 +221,7 @@ fn unready(e: Event, v: Version) -> bool
     if e.kind == 5 {
         return !(v.old.created | v.window);
     }
-    if (e.kind == 9) | ((e.kind == 10) | false) {
+    if (e.kind == 9) | (e.kind == 10) {
         return v.cast.failed != 0;
     }
     (e.kind == 14) & (v.status == 6) & (v.cast.failed == 0)
@@ -230,7 +230,7 @@ fn unready(e: Event, v: Version) -> bool
 pub fn is_broadcast(kind: u8) -> bool
     ensures { λ r. ⌜ r ≡ isBroadcast kind ⌝ }
 {
-    (kind == 5) | ((kind == 9) | ((kind == 10) | ((kind == 14) | false)))
+    (kind == 5) | ((kind == 9) | ((kind == 10) | (kind == 14)))
 }
 
 fn busy(e: Event, f: Facts, v: Version) -> bool

@@ -78,7 +78,7 @@ pub fn closed(v: Version) -> Version
     c.start = 0;
     let mut w = v;
     w.status = status;
-    w.live = (status == 5) | ((status == 6) | false);
+    w.live = (status == 5) | (status == 6);
     w.cast = c;
     w
 }

@@ -124,30 +124,37 @@ pub fn concurred(e: Event, v: Version) -> Version
     w
 }
 
+// A side that has not created.
+fn new_absent(provider: u8) -> NewSide
+    ensures { λ r. ⌜ r ≡ newAbsent provider ⌝ }
+{
+    NewSide {
+        provider,
+        created: false,
+        lrn: Lrn(0),
+        due: 0,
+    }
+}
+
+fn old_absent(provider: u8) -> OldSide
+    ensures { λ r. ⌜ r ≡ oldAbsent provider ⌝ }
+{
+    OldSide {
+        provider,
+        created: false,
+        authorization: 0,
+        cause: 0,
+        due: 0,
+    }
+}
+
 // A fresh version with a number.
 pub fn fresh(e: Event, number: u16) -> Version
     ensures { λ r. ⌜ r ≡ freshNumbered e number ⌝ }
 {
     let tn = e.tn;
-    let new = new_joined(
-        e,
-        NewSide {
-            provider: new_in(e),
-            created: false,
-            lrn: Lrn(0),
-            due: 0,
-        },
-    );
-    let old = old_joined(
-        e,
-        OldSide {
-            provider: old_in(e),
-            created: false,
-            authorization: 0,
-            cause: 0,
-            due: 0,
-        },
-    );
+    let new = new_joined(e, new_absent(new_in(e)));
+    let old = old_joined(e, old_absent(old_in(e)));
     Version {
         id: Id { tn, number },
         status: status_by(old, 0),

@@ -1,4 +1,4 @@
-use mathlib.Core.Path.{refl, _∙_}
+use mathlib.Core.Path.{_∙_}
 use mathlib.Core.List.{[]}
 use Rattle.engine.specs.Event.{givenTo}
 use Rattle.engine.proofs.Deciding.{did-refused, did-acted, rule-accepts}
@@ -36,6 +36,9 @@ put-answered-requires c κs =
       ),
     )
 
+done-requires : tie.Need-done-requires
+done-requires c κs = search needs
+
 enum-told : tie.Need-enum-told
 enum-told c = search needs
 
@@ -53,10 +56,10 @@ same-length-2 c = search needs
 
 returns-2 : tie.Need-returns-2
 returns-2 c =
-    let s = c .before .before .before .before .before .before .before .before .before .before .before .before .before .before .before .before .before in
+    let s = c .before .before .before .before .before .before .before .before .before .before .before .before .before .before .before .before .before .before in
     λ b. did-acted (givenTo _ b _ _ (s .args .e)) _ _ _ _ _ _ _
-    (rule-accepts (givenTo (s .args .marks) b (s .args .most) _ (s .args .e)) _ _ (answer-out (s .args .marks) b _ _ _ (s .args .e) (s .args .f) (s .pre .0) (s .pre .1 .3) (s .pre .1 .4) _ _ (c .before .before .before .before .before .before .before .before .before .before .before .asked .given .1) _ _ (c .before .before .before .before .before .before .before .before .before .before .before .before .before .before .absent .ensures) (c .before .before .before .before .before .before .before .before .before .answer .ensures)) (c .before .before .before .before .before .before .before .before .number .ensures) (c .before .before .before .before .before .before .before .if1 .left) .1 ∙ answer-accepts (s .args .marks) b _ _ _ (s .args .e) (s .args .f) (s .pre .0) (s .pre .1 .3) (s .pre .1 .4) _ _ (c .before .before .before .before .before .before .before .before .before .before .before .asked .given .1))
-    (answers-done (s .args .most) (s .args .e) _ _) refl (c .before .before .before .before .put-answered .ensures)
+    (rule-accepts (givenTo (s .args .marks) b (s .args .most) _ (s .args .e)) _ _ (answer-out (s .args .marks) b _ _ _ (s .args .e) (s .args .f) (s .pre .0) (s .pre .1 .3) (s .pre .1 .4) _ _ (c .before .before .before .before .before .before .before .before .before .before .before .before .asked .given .1) _ _ (c .before .before .before .before .before .before .before .before .before .before .before .before .before .before .before .absent .ensures) (c .before .before .before .before .before .before .before .before .before .before .answer .ensures)) (c .before .before .before .before .before .before .before .before .before .number .ensures) (c .before .before .before .before .before .before .before .before .if1 .left) .1 ∙ answer-accepts (s .args .marks) b _ _ _ (s .args .e) (s .args .f) (s .pre .0) (s .pre .1 .3) (s .pre .1 .4) _ _ (c .before .before .before .before .before .before .before .before .before .before .before .before .asked .given .1))
+    (answers-done (s .args .most) (s .args .e) _ _) (c .done .ensures) (c .before .before .before .before .before .put-answered .ensures)
 
 returns-3 : tie.Need-returns-3
 returns-3 c =
@@ -75,6 +78,7 @@ on-answer-spec =
     number-requires
     returns
     put-answered-requires
+    done-requires
     enum-told
     unknown-requires
     number-requires-2

@@ -29,6 +29,9 @@ created-requires c κs =
     let a = rule-accepts (givenTo (s .args .marks) _ 0 _ (s .args .e)) _ _ (create-out _ _ _ _ (s .args .e) (s .args .f) (s .pre .0) (s .pre .1 .1) (s .pre .1 .2) 0 _ _ _ _ (c .before .before .before .before .before .before .before .absent .ensures) (c .before .before .before .before .before .owner .ensures (s .args .marks)) refl (c .before .before .before .before .create .ensures)) (c .before .before .before .number .ensures) (c .before .before .if1 .left) in
     (s .pre .0, (creatable _ _ _ _ (s .args .e) (s .args .f) (s .pre .0) (s .pre .1 .1) (s .pre .1 .2) (s .pre .1 .0 .formed) (a .0) (a .1), s .pre .1 .0 .places))
 
+done-requires : tie.Need-done-requires
+done-requires c κs = search needs
+
 same-length : tie.Need-same-length
 same-length c = search needs
 
@@ -37,10 +40,10 @@ same-length-2 c = search needs
 
 returns-2 : tie.Need-returns-2
 returns-2 c =
-    let s = c .before .before .before .before .before .before .before .before .before .before .before .before .before .before .before .before in
+    let s = c .before .before .before .before .before .before .before .before .before .before .before .before .before .before .before .before .before in
     λ most. did-acted (givenTo _ _ most _ (s .args .e)) _ _ _ _ _ _ _
-    (rule-accepts (givenTo (s .args .marks) _ most _ (s .args .e)) _ _ (create-out _ _ _ _ (s .args .e) (s .args .f) (s .pre .0) (s .pre .1 .1) (s .pre .1 .2) most _ _ _ _ (c .before .before .before .before .before .before .before .before .before .before .before .before .absent .ensures) (c .before .before .before .before .before .before .before .before .before .before .owner .ensures (s .args .marks)) refl (c .before .before .before .before .before .before .before .before .before .create .ensures)) (c .before .before .before .before .before .before .before .before .number .ensures) (c .before .before .before .before .before .before .before .if1 .left) .1 ∙ create-accepts _ _ _ _ (s .args .e) (s .args .f) (s .pre .0) (s .pre .1 .1) (s .pre .1 .2) most)
-    (creates-done (s .args .e) _) refl (c .before .before .before .before .created .ensures)
+    (rule-accepts (givenTo (s .args .marks) _ most _ (s .args .e)) _ _ (create-out _ _ _ _ (s .args .e) (s .args .f) (s .pre .0) (s .pre .1 .1) (s .pre .1 .2) most _ _ _ _ (c .before .before .before .before .before .before .before .before .before .before .before .before .before .absent .ensures) (c .before .before .before .before .before .before .before .before .before .before .before .owner .ensures (s .args .marks)) refl (c .before .before .before .before .before .before .before .before .before .before .create .ensures)) (c .before .before .before .before .before .before .before .before .before .number .ensures) (c .before .before .before .before .before .before .before .before .if1 .left) .1 ∙ create-accepts _ _ _ _ (s .args .e) (s .args .f) (s .pre .0) (s .pre .1 .1) (s .pre .1 .2) most)
+    (creates-done (s .args .e) _) (c .done .ensures) (c .before .before .before .before .before .created .ensures)
 
 pub on-create-spec : {M : Type 1} → statement M
 on-create-spec =
@@ -52,6 +55,7 @@ on-create-spec =
     number-requires
     returns
     created-requires
+    done-requires
     same-length
     same-length-2
     returns-2)

@@ -1,4 +1,4 @@
-use mathlib.Core.Path.{refl, _∙_}
+use mathlib.Core.Path.{_∙_}
 use mathlib.Core.List.{[]}
 use native.Mathlib.Omega.{arith}
 use Rattle.engine.specs.Event.{givenTo}
@@ -34,6 +34,9 @@ manage-requires c κs =
     let a = rule-accepts (givenTo (s .args .marks) _ 0 _ (s .args .e)) _ _ (other-out (s .args .marks) _ 0 _ _ (s .args .e) (s .args .f) (s .pre .0) (s .pre .1 .1) (s .pre .1 .2) (s .pre .1 .3) _ _ (c .before .before .before .before .before .before .asked .given .1) _ _ (c .before .before .before .before .before .before .before .before .before .absent .ensures) (c .before .before .before .before .other .ensures)) (c .before .before .before .number .ensures) (c .before .before .if1 .left) in
     (s .pre .0, (manageable (s .args .marks) _ 0 _ _ (s .args .e) (s .args .f) (s .pre .0) (s .pre .1 .1) (s .pre .1 .2) (s .pre .1 .3) _ _ (c .before .before .before .before .before .before .asked .given .1) (omega arith) (s .pre .1 .0 .formed) (s .pre .1 .0 .sound) (a .1), s .pre .1 .0 .places))
 
+done-requires : tie.Need-done-requires
+done-requires c κs = search needs
+
 enum-told : tie.Need-enum-told
 enum-told c = search needs
 
@@ -51,10 +54,10 @@ same-length-2 c = search needs
 
 returns-2 : tie.Need-returns-2
 returns-2 c =
-    let s = c .before .before .before .before .before .before .before .before .before .before .before .before .before .before .before .before .before .before in
+    let s = c .before .before .before .before .before .before .before .before .before .before .before .before .before .before .before .before .before .before .before in
     λ most. did-acted (givenTo _ _ most _ (s .args .e)) _ _ _ _ _ _ _
-    (rule-accepts (givenTo (s .args .marks) _ most _ (s .args .e)) _ _ (other-out (s .args .marks) _ most _ _ (s .args .e) (s .args .f) (s .pre .0) (s .pre .1 .1) (s .pre .1 .2) (s .pre .1 .3) _ _ (c .before .before .before .before .before .before .before .before .before .before .before .asked .given .1) _ _ (c .before .before .before .before .before .before .before .before .before .before .before .before .before .before .absent .ensures) (c .before .before .before .before .before .before .before .before .before .other .ensures)) (c .before .before .before .before .before .before .before .before .number .ensures) (c .before .before .before .before .before .before .before .if1 .left) .1 ∙ other-accepts (s .args .marks) _ most _ _ (s .args .e) (s .args .f) (s .pre .0) (s .pre .1 .1) (s .pre .1 .2) (s .pre .1 .3) _ _ (c .before .before .before .before .before .before .before .before .before .before .before .asked .given .1))
-    (manages-done _ (s .args .e) _ _) refl (c .before .before .before .before .manage .ensures)
+    (rule-accepts (givenTo (s .args .marks) _ most _ (s .args .e)) _ _ (other-out (s .args .marks) _ most _ _ (s .args .e) (s .args .f) (s .pre .0) (s .pre .1 .1) (s .pre .1 .2) (s .pre .1 .3) _ _ (c .before .before .before .before .before .before .before .before .before .before .before .before .asked .given .1) _ _ (c .before .before .before .before .before .before .before .before .before .before .before .before .before .before .before .absent .ensures) (c .before .before .before .before .before .before .before .before .before .before .other .ensures)) (c .before .before .before .before .before .before .before .before .before .number .ensures) (c .before .before .before .before .before .before .before .before .if1 .left) .1 ∙ other-accepts (s .args .marks) _ most _ _ (s .args .e) (s .args .f) (s .pre .0) (s .pre .1 .1) (s .pre .1 .2) (s .pre .1 .3) _ _ (c .before .before .before .before .before .before .before .before .before .before .before .before .asked .given .1))
+    (manages-done _ (s .args .e) _ _) (c .done .ensures) (c .before .before .before .before .before .manage .ensures)
 
 returns-3 : tie.Need-returns-3
 returns-3 c =
@@ -73,6 +76,7 @@ on-other-spec =
     number-requires
     returns
     manage-requires
+    done-requires
     enum-told
     unknown-requires
     number-requires-2

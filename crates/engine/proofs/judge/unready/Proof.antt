@@ -1,3 +1,4 @@
+use mathlib.Core.Bool.{or-false}
 use borrow.Author.Tests.{eq-eqb, ne-eqb}
 use Rattle.model.specs.Standing.{unready}
 use Rattle.engine.proofs.judge.unready.Statement.{statement}
@@ -9,11 +10,11 @@ returns c = rw (eq-eqb _ 5 (c .before .if1 .taken))
 
 returns-2 : tie.Need-returns-2
 unfolding unready
-returns-2 c = rw (ne-eqb _ 5 (c .before .before .before .before .if1 .left), c .before .if2 .taken)
+returns-2 c = rw (ne-eqb _ 5 (c .before .before .before .before .if1 .left), or-false _, c .before .if2 .taken)
 
 returns-3 : tie.Need-returns-3
 unfolding unready
-returns-3 c = rw (ne-eqb _ 5 (c .before .before .before .before .before .before .if1 .left), c .before .before .before .if2 .left)
+returns-3 c = rw (ne-eqb _ 5 (c .before .before .before .before .before .before .if1 .left), or-false _, c .before .before .before .if2 .left)
 
 pub unready-spec : {M : Type 1} → statement M
 unready-spec = tie.close (tie.spec returns returns-2 returns-3)

@@ -1,3 +1,4 @@
+use mathlib.Core.Bool.{or-false}
 use Rattle.model.specs.Closing.{closed}
 use borrow.Author.Needs.{needs}
 use Rattle.rules.proofs.cast.closed.Statement.{statement}
@@ -11,7 +12,7 @@ kept-purpose-requires c κs = search needs
 
 returns : tie.Need-returns
 unfolding closed
-returns c = rw (c .kept-purpose .ensures, c .before .before .close-to .ensures)
+returns c = rw (c .kept-purpose .ensures, c .before .before .close-to .ensures) (simp (or-false))
 
 pub closed-spec : {M : Type 1} → statement M
 closed-spec = tie.close (tie.spec close-to-requires kept-purpose-requires returns)
