@@ -1,4 +1,4 @@
--- A provider list that stands in the code.
+-- A provider list that stands in the code. [Z1]
 -- Assumes nothing.
 use mathlib.Core.Path.{_≡_, refl}
 use mathlib.Core.Bool.{true}

@@ -1,4 +1,4 @@
-// A provider list that stands in the code, lent as records.
+// A provider list that stands in the code, lent as records. [Z1, F7]
 ghost use mathlib.Core.Path.{_≡_};
 ghost use Rattle.providers.specs.Providers.{listed};
 ghost use Rattle.sample.specs.Sample.{three};
