@@ -64,8 +64,7 @@ fn one(place: u64, table: &mut [u8], books: &[u8], tray: &mut [u8]) -> bool {
     if n == 0 {
         return false;
     }
-    let l = providers::marks_of_bytes(b"\x03\x03\x03");
-    let a = engine::step::step_listed(table, l, books, RETRIES, &event[..n], tray);
+    let a = engine::step::step_listed(table, sample::built_in(), books, RETRIES, &event[..n], tray);
     print_answer(place, a.outcome, a.count);
     true
 }
