@@ -67,9 +67,9 @@ extern "C" lupinenblatt_ran lupinenblatt_run(uint8_t *table, size_t tableLength,
         ran.events++;
         ran.messages += r.messages.size();
     }
-    Bytes after;
-    packTable(*t, after);
-    std::copy(after.begin(), after.end(), table);
+    Bytes left;
+    packTable(*t, left);
+    std::copy(left.begin(), left.end(), table);
     return ran;
 }
 
