@@ -9,6 +9,8 @@ use model::Lrn;
 use model::Reading;
 use model::Tn;
 
+pub mod step;
+
 // The ten fields in the paper's order, to ten places.
 fn store(e: Event, fields: &mut [u64])
     requires { ⌜ length (now fields) ≡ 10 ⌝ }

@@ -1,0 +1,42 @@
+-- What the step's calls answer before the engine is asked.
+-- Assumes nothing.
+use mathlib.Core.Path.{_≡_, refl, sym, ap, _∙_}
+use Prim.Native.Nat.{ℕ}
+use mathlib.Core.Bool.{Bool, true, false, cond, _&&_}
+use mathlib.Core.List.{List, map}
+use lib.Dec.{leb}
+use Rattle.model.specs.Books.{soundBooks}
+use Rattle.model.specs.Sound.{soundTable}
+use Rattle.model.specs.Given.{refuse}
+use Rattle.model.specs.Step.{unsound, line}
+use Rattle.model.specs.Step as model
+use Rattle.model.specs.declared.Outcome.the-variants as outcome
+use Rattle.providers.specs.Providers.{listed, entryOf}
+use Rattle.providers.specs.declared.Listed.{Listed}
+use Rattle.books.specs.Packed.{decodeBooks, soundBytes}
+use Rattle.table.specs.Table.{decode}
+use Rattle.table.specs.Sound.{rowsIn}
+use Rattle.engine.specs.Step.{settingOf, formed, resultOf}
+use Rattle.lupinenblatt.specs.Checks.{checkedBooks}
+
+-- R above 7 is refused, whatever else was lent.
+pub wide-retries : (p b : List ℕ) (most : ℕ) (e t y : List ℕ) → leb most 7 ≡ false → resultOf p b most e t y ≡ refuse outcome.Unsound
+unfolding resultOf model.step unsound
+wide-retries p b most e t y h =
+    go (formed (listed (map entryOf p)) b t) refl (soundTable (line (settingOf (listed (map entryOf p) .marks) b most t y)) (rowsIn t) (decode t)) refl
+    (soundBooks (decodeBooks (listed (map entryOf p) .marks) b)) refl
+  where
+    go : (f : Bool) → formed (listed (map entryOf p)) b t ≡ f
+        → (x : Bool) → soundTable (line (settingOf (listed (map entryOf p) .marks) b most t y)) (rowsIn t) (decode t) ≡ x
+        → (k : Bool) → soundBooks (decodeBooks (listed (map entryOf p) .marks) b) ≡ k
+        → resultOf p b most e t y ≡ refuse outcome.Unsound
+    go false q x r k s = rw q
+    go true q false r k s = rw (q, r)
+    go true q true r false s = rw (q, r, s)
+    go true q true r true s = rw (q, r, s, h)
+
+-- the provider list that was read, and what the books' check said of it
+pub checks : (p b : List ℕ) (l : Listed) (k : Bool) (n : ℕ) → l ≡ listed (map entryOf p) → k ≡ soundBytes (l .marks) b → n ≡ cond (l .sound && k) 0 1 → n ≡ checkedBooks p b
+unfolding checkedBooks
+checks p b l k n e f g =
+    g ∙ ap (λ (x : Bool). cond (l .sound && x) 0 1) f ∙ ap (λ (x : Listed). cond (x .sound && soundBytes (x .marks) b) 0 1) e

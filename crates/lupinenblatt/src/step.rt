@@ -1,0 +1,78 @@
+// The step, and the checks of what it is lent.
+use engine::event::Answer;
+use table::scan::Soundness;
+ghost use mathlib.Core.Path.{_≡_};
+ghost use Rattle.model.specs.Books.{defaultRetries};
+ghost use Rattle.table.specs.Sound.{soundnessOf};
+ghost use Rattle.engine.specs.Event.{Did};
+ghost use Rattle.engine.specs.Step.{resultOf};
+ghost use Rattle.lupinenblatt.specs.Checks.{checkedTable, checkedBooks};
+
+const MOST_RETRIES: u64 = 7;
+
+const DEFAULT_RETRIES: u8 = 0;
+
+// One event on a table.
+#[no_mangle]
+pub extern "C" fn lupinenblatt_step(
+    table: &mut [u8],
+    providers: &[u8],
+    books: &[u8],
+    retries: u64,
+    event: &[u8],
+    tray: &mut [u8],
+) -> Answer
+    ensures { λ r. ⌜ Did (resultOf (now (providers .entry)) (now (books .entry)) retries (now (event .entry)) (now (table .entry)) (now (tray .entry))) (now (table .entry)) (now (tray .entry)) (now (table .exit)) (now (tray .exit)) r ⌝ }
+{
+    if MOST_RETRIES < retries {
+        return Answer {
+            outcome: 1,
+            count: 0,
+        };
+    }
+    engine::step::step(table, providers, books, retries as u8, event, tray)
+}
+
+// The same with document 01's own R.
+#[no_mangle]
+pub extern "C" fn lupinenblatt_step_default(
+    table: &mut [u8],
+    providers: &[u8],
+    books: &[u8],
+    event: &[u8],
+    tray: &mut [u8],
+) -> Answer
+    ensures { λ r. ⌜ Did (resultOf (now (providers .entry)) (now (books .entry)) defaultRetries (now (event .entry)) (now (table .entry)) (now (tray .entry))) (now (table .entry)) (now (tray .entry)) (now (table .exit)) (now (tray .exit)) r ⌝ }
+{
+    engine::step::step(table, providers, books, DEFAULT_RETRIES, event, tray)
+}
+
+// Whether bytes are a sound table, and how many of its rows are used.
+#[no_mangle]
+pub extern "C" fn lupinenblatt_table_check(table: &[u8]) -> Answer
+    ensures { λ r. ⌜ r ≡ checkedTable (soundnessOf (now (table .entry))) ⌝ }
+{
+    let verdict = table::scan::verdict(table);
+    match verdict {
+        Soundness::Sound { used } => Answer {
+            outcome: 0,
+            count: used as u64,
+        },
+        Soundness::Unsound => Answer {
+            outcome: 1,
+            count: 0,
+        },
+    }
+}
+
+// Whether bytes are a sound provider list and sound books.
+#[no_mangle]
+pub extern "C" fn lupinenblatt_books_check(providers: &[u8], books: &[u8]) -> u8
+    ensures { λ r. ⌜ r ≡ checkedBooks (now (providers .entry)) (now (books .entry)) ⌝ }
+{
+    let l = providers::marks_of_bytes(providers);
+    let marks = l.marks;
+    let listed = l.sound;
+    let kept = books::sound(marks, books);
+    if listed & kept { 0 } else { 1 }
+}
