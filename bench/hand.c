@@ -31,6 +31,20 @@ static inline uint64_t load64(const uint8_t *at)
     return w;
 }
 
+static inline uint64_t raw64(const uint8_t *at)
+{
+    uint64_t w;
+    memcpy(&w, at, 8);
+    return w;
+}
+
+static inline uint32_t raw32(const uint8_t *at)
+{
+    uint32_t w;
+    memcpy(&w, at, 4);
+    return w;
+}
+
 static inline uint32_t load32(const uint8_t *at)
 {
     uint32_t w;
@@ -55,15 +69,19 @@ static inline bool all_zero(const uint8_t *at, size_t length)
     return length == 0 || (at[0] == 0 && memcmp(at, at + 1, length - 1) == 0);
 }
 
-/* Ten digits, the first and the fourth 2 to 9: 1 where they are not. */
+/*
+ * Ten digits, the first and the fourth 2 to 9: 1 where they are not. The fourth digit is 2 or more exactly where n / 10,000,000 is at least
+ * 0.2 above its whole part, and that fraction is the low word of n times 2^64 / 10,000,000: the error, below 2^34, is less than a step of n.
+ */
 static inline uint64_t not_ten_digits(uint64_t n)
 {
-    return (n - 2000000000u > 7999999999u) | (n / 1000000 % 10 < 2);
+    return (n - 2000000000u > 7999999999u) | (n * 1844674407371u < 3689348814741910323u);
 }
 
+/* Likewise six digits; for c below 2^20 the error, below 2^20, is less than a step of 2^32 / 1,000. */
 static inline uint32_t not_a_code(uint32_t c)
 {
-    return (c - 200000 > 799999) | (c / 100 % 10 < 2);
+    return (c - 200000 > 799999) | (c * 4294968u < 858993459u);
 }
 
 /* ---- Soundness of the table ---- */
@@ -93,6 +111,13 @@ static const uint64_t FITS[16] = {
     [CANCELED] = (NEWC | OLDC) & ~CANCELLER & AIMLESS & ~LIVE,
 };
 
+/* Bit 0 of a set, which is no provider's, as it stands in memory. */
+#if __BYTE_ORDER__ == __ORDER_LITTLE_ENDIAN__
+#define NOBODY ((uint64_t)1 << 56)
+#else
+#define NOBODY ((uint64_t)1)
+#endif
+
 /* What a number may have once: a sending version 2, a worked one 4; live is 1. */
 static const uint8_t ONCE[16] = {[PENDING] = 4, [CONFLICT] = 4, [CANCEL_PENDING] = 4, [SENDING] = 2};
 
@@ -113,36 +138,38 @@ static uint64_t stray_retries(uint64_t a, uint64_t b, uint64_t c, uint64_t waiti
     return (a & ~(spread(waiting >> 1) * 7)) | (b & ~(spread(waiting >> 22) * 7)) | (c & ~(spread(waiting >> 43) * 7));
 }
 
-/* The used rows, or -1 for an unsound table. */
+/* The used rows, or -1 for an unsound table. What is only compared with zero, or set with set, is taken as it stands in memory. */
 static ptrdiff_t check_table(const uint8_t *table, size_t length)
 {
     if (length % ROW != 0 || length > (size_t)MOST_ROWS * ROW) return -1;
     const uint8_t *at = table, *end = table + length;
     uint64_t last = 0, seen = 0;
     for (; at != end; at += ROW) {
-        uint64_t w0 = load64(at);
+        uint64_t w0 = load64(at), w1 = load64(at + 8);
         if (w0 == 0) break;
-        uint64_t w1 = load64(at + 8), w2 = load64(at + 16), w3 = load64(at + 24);
-        uint64_t confirmed = load64(at + 32), waiting = load64(at + 40), failed = load64(at + 48);
-        uint64_t r0 = load64(at + 56), r1 = load64(at + 64), r2 = load64(at + 72);
-        uint64_t key = w0 >> 14, tn = w0 >> 30, lrn = w1 >> 30, status = w0 >> 10 & 15, live = w0 >> 9 & 1, created = w0 >> 8 & 1;
-        uint64_t old = w0 >> 7 & 1, one = w1 >> 24 & 63, two = w1 >> 18 & 63, mark = w1 >> 16 & 3, cause = w1 >> 9 & 127;
-        uint64_t canceller = w1 >> 7 & 3, purpose = w1 >> 5 & 3, sending = status == SENDING;
-        uint64_t place = (w0 >> 7 & 7) | purpose << 3 | (uint64_t)(canceller != 0) << 5;
-        uint64_t bad = (w0 & 63) | (w1 & 31) | not_ten_digits(tn) | ((key & 0xffff) == 0) | (~(FITS[status] >> place) & 1);
-        bad |= (created ^ (w2 >> 32 != 0)) | (created ^ (lrn != 0)) | (created & not_ten_digits(lrn));
-        bad |= (old ^ ((uint32_t)w2 != 0)) | (old ^ (mark != 0)) | (mark == 3) | (canceller == 3);
-        bad |= (uint64_t)((mark == NO) != (cause != 0)) | (cause > 99) | (one == 0) | (two == 0) | (one == two);
-        bad |= (w3 >> 32 == 0) | (sending ^ ((uint32_t)w3 != 0)) | (sending ^ (waiting != 0));
-        bad |= ((confirmed | waiting | failed) & 1) | (confirmed & waiting) | ((confirmed | waiting) & failed);
-        bad |= live & (purpose == ACTIVATE) & (confirmed == 0) & ((waiting | failed) != 0);
-        if ((r0 | r1 | r2) != 0) bad |= stray_retries(r0, r1, r2, waiting);
+        uint64_t key = w0 >> 14, tn = w0 >> 30, status = w0 >> 10 & 15, live = w0 >> 9 & 1, created = w0 >> 8 & 1, old = w0 >> 7 & 1;
+        uint64_t bad = (w0 & 63) | (w1 & 31) | ((key & 0xffff) == 0) | (key <= last) | not_ten_digits(tn);
         uint64_t once = ONCE[status] | live;
-        seen = tn == last >> 16 ? seen : 0;
-        bad |= (key <= last) | (seen & once);
-        if (bad != 0) return -1;
+        seen &= -(uint64_t)(tn == last >> 16);
+        bad |= seen & once;
         seen |= once;
         last = key;
+
+        uint64_t lrn = w1 >> 30, one = w1 >> 24 & 63, two = w1 >> 18 & 63, mark = w1 >> 16 & 3, cause = w1 >> 9 & 127;
+        uint64_t canceller = w1 >> 7 & 3, purpose = w1 >> 5 & 3;
+        bad |= ~(FITS[status] >> ((w0 >> 7 & 7) | purpose << 3 | (uint64_t)(canceller != 0) << 5)) & 1;
+        bad |= (created ^ (lrn != 0)) | (created & not_ten_digits(lrn)) | (created ^ (raw32(at + 16) != 0));
+        bad |= (old ^ (mark != 0)) | (old ^ (raw32(at + 20) != 0));
+        bad |= (uint64_t)((mark == NO) != (cause != 0)) | (cause > 99) | (mark == 3) | (canceller == 3);
+        bad |= (one == 0) | (two == 0) | (one == two);
+
+        uint64_t confirmed = raw64(at + 32), waiting = raw64(at + 40), failed = raw64(at + 48), sending = status == SENDING;
+        bad |= (raw32(at + 24) == 0) | (sending ^ (raw32(at + 28) != 0)) | (sending ^ (waiting != 0));
+        bad |= ((confirmed | waiting | failed) & NOBODY) | (confirmed & waiting) | ((confirmed | waiting) & failed);
+        bad |= live & (purpose == ACTIVATE) & (confirmed == 0) & ((waiting | failed) != 0);
+        if ((raw64(at + 56) | raw64(at + 64) | raw64(at + 72)) != 0)
+            bad |= stray_retries(load64(at + 56), load64(at + 64), load64(at + 72), load64(at + 40));
+        if (bad != 0) return -1;
     }
     if (!all_zero(at, (size_t)(end - at))) return -1;
     return (at - table) / ROW;
