@@ -38,6 +38,13 @@ double emptyTime() {
 
 using Work = std::function<void()>;
 
+// A call that leaves everything as it was, often enough that the clock's own error does not matter.
+Work often(size_t times, const Work &work) {
+    return [=] {
+        for (size_t i = 0; i < times; i++) work();
+    };
+}
+
 // The shortest time of each, taken in turns, each after `before`; the clock's own time is taken off.
 std::vector<double> shortest(size_t repetitions, const Work &before, const std::vector<Work> &works) {
     static const double clock = emptyTime();
@@ -59,6 +66,7 @@ size_t repetitionsFor(size_t rows) { return rows <= 64 ? 2500 : rows <= 512 ? 15
 
 // Books with so many entries; the first code of the list is `home`, and every second provider has a filter on it where there are filters.
 struct Lists { size_t providers, codes, filters, splits; bool homeSplit; };
+const Lists STEP_LISTS = {20, 256, 64, 8, false};
 
 void makeBooks(Dice &d, Situation &s, const Lists &l, std::vector<Code> &codes) {
     s.books = Books(), s.present.clear(), s.systems.clear();
@@ -155,9 +163,9 @@ void mustAgree(bool agree, const std::string &what) {
 // ---- Printing ----
 
 void printHead() {
-    std::printf("\n%-44s", "");
+    std::printf("\n%-52s", "");
     for (size_t n : SIZES) std::printf("|%14zu rows   ", n);
-    std::printf("\n%-44s", "");
+    std::printf("\n%-52s", "");
     for (size_t i = 0; i < SIZES.size(); i++) std::printf("|     /hand    /pass  ");
     std::printf("\n");
 }
@@ -178,15 +186,16 @@ void noCell() { std::printf("|%10s%9s  ", "-", "-"); }
 // ---- Soundness ----
 
 void soundnessRow(const char *name, const std::vector<Lent *> &lents, const std::vector<size_t> &sizes) {
-    std::printf("%-44s", name);
+    std::printf("%-52s", name);
     for (size_t i = 0; i < lents.size(); i++) {
         Lent &l = *lents[i];
         lupinenblatt_answer a = lupinenblatt_table_check(l.tableAt.data(), l.tableAt.size()), b = hand_table_check(l.tableAt.data(), l.tableAt.size());
         mustAgree(a.outcome == b.outcome && a.count == b.count, name);
-        std::vector<double> t = shortest(repetitionsFor(sizes[i]), [] {}, {
-            [&] { sink = lupinenblatt_table_check(l.tableAt.data(), l.tableAt.size()).count; },
-            [&] { sink = hand_table_check(l.tableAt.data(), l.tableAt.size()).count; },
-            [&] { sink = plain_pass(l.tableAt.data(), l.tableAt.size()); }});
+        size_t times = 4096 / sizes[i];
+        std::vector<double> t = shortest(400, [] {}, {
+            often(times, [&] { sink = lupinenblatt_table_check(l.tableAt.data(), l.tableAt.size()).count; }),
+            often(times, [&] { sink = hand_table_check(l.tableAt.data(), l.tableAt.size()).count; }),
+            often(times, [&] { sink = plain_pass(l.tableAt.data(), l.tableAt.size()); })});
         cell(t[0], t[1], t[2]);
     }
     std::printf("\n");
@@ -219,11 +228,41 @@ void booksRow(const char *name, const Lists &l) {
     Lent lent(s, 64, 64, Bytes());
     const uint8_t *p = lent.providers.data(), *b = lent.books.data();
     mustAgree(lupinenblatt_books_check(p, 63, b, BOOKS) == hand_books_check(p, 63, b, BOOKS), name);
-    std::vector<double> t = shortest(4000, [] {}, {[&] { sink = lupinenblatt_books_check(p, 63, b, BOOKS); },
-                                                  [&] { sink = hand_books_check(p, 63, b, BOOKS); }, [&] { sink = plain_pass(b, BOOKS); }});
-    std::printf("%-44s", name);
+    std::vector<double> t = shortest(500, [] {}, {often(10, [&] { sink = lupinenblatt_books_check(p, 63, b, BOOKS); }),
+                                                 often(10, [&] { sink = hand_books_check(p, 63, b, BOOKS); }),
+                                                 often(10, [&] { sink = plain_pass(b, BOOKS); })});
+    std::printf("%-52s", name);
     cell(t[0], t[1], t[2]);
     std::printf("\n");
+}
+
+// ---- Records ----
+
+void records() {
+    Dice d(23);
+    Situation s = makeRows(d, STEP_LISTS, 64, 1000);
+    std::vector<Event> events;
+    Bytes bytes, out(RECORD);
+    for (int i = 0; i < 1000; i++) {
+        events.push_back(nextEvent(d, s, 60));
+        Bytes record = packEvent(events.back());
+        bytes.insert(bytes.end(), record.begin(), record.end());
+    }
+    uint64_t fields[10];
+    auto readAll = [&](auto read) {
+        return [&, read] {
+            for (size_t i = 0; i < events.size(); i++) sink = read(bytes.data() + i * RECORD, RECORD, fields, 10);
+        };
+    };
+    auto writeAll = [&](auto write) {
+        return [&, write] {
+            for (const Event &e : events)
+                sink = write(e.kind, e.sender, e.other, e.mark, e.cause, e.tn.digits, e.lrn.digits, e.version, e.time, e.due, out.data(), RECORD);
+        };
+    };
+    std::vector<double> r = shortest(500, [] {}, {readAll(lupinenblatt_record_read), readAll(hand_record_read)});
+    std::vector<double> w = shortest(500, [] {}, {writeAll(lupinenblatt_record_write), writeAll(hand_record_write)});
+    std::printf("%-52s|%10.2f\n%-52s|%10.2f\n", "record read", r[0] / r[1], "record write", w[0] / w[1]);
 }
 
 // ---- Single steps ----
@@ -271,7 +310,7 @@ std::optional<Event> findEvent(Dice &d, const Situation &s, const Wanted &w) {
         e.time = 0;
         return e;
     }
-    for (int i = 0; i < 20000; i++) {
+    for (int i = 0; i < 4000; i++) {
         Event e = nextEvent(d, s, w.outcome == DONE ? 95 : 30);
         if (w.outcome == UNLISTED) e = aCreate(d, s, Tn{anyTenDigits(d)});
         if ((w.kind != 0 && e.kind != w.kind) || outcomeOf(s.table, s.books, e) != w.outcome) continue;
@@ -282,12 +321,16 @@ std::optional<Event> findEvent(Dice &d, const Situation &s, const Wanted &w) {
 }
 
 void stepRow(Dice &d, const Wanted &w, const std::vector<Situation> &situations, std::vector<Mean> &means) {
-    std::printf("step, %-38s", w.name);
+    std::printf("step, %-46s", w.name);
     for (size_t i = 0; i < SIZES.size(); i++) {
-        Situation s = situations[i];
-        s.table.freeRows = 0;
-        if (w.fresh) s.table.used.pop_back(), s.table.freeRows = 1;
-        std::optional<Event> e = findEvent(d, s, w);
+        Situation s;
+        std::optional<Event> e;
+        for (int tries = 0; tries < 20 && !e; tries++) {
+            s = tries == 0 ? situations[i] : makeRows(d, STEP_LISTS, SIZES[i], 1000);
+            s.table.freeRows = 0;
+            if (w.fresh) s.table.used.pop_back(), s.table.freeRows = 1;
+            e = findEvent(d, s, w);
+        }
         if (!e) {
             noCell();
             continue;
@@ -304,9 +347,9 @@ void stepRow(Dice &d, const Wanted &w, const std::vector<Situation> &situations,
 }
 
 void meanRow(const char *name, const std::vector<Mean> &means) {
-    std::printf("%-44s", name);
+    std::printf("%-52s", name);
     for (const Mean &m : means) std::printf("|%10.2f           ", std::exp(m.logs / double(m.count ? m.count : 1)));
-    std::printf("\n%-44s", "  largest");
+    std::printf("\n%-52s", "  largest");
     for (const Mean &m : means) std::printf("|%10.2f           ", m.worst);
     std::printf("\n");
 }
@@ -354,7 +397,7 @@ void selections() {
         mustAgree(a.outcome == DONE && a.outcome == b.outcome && a.count == b.count && l.same(other), name);
         std::vector<double> t = shortest(2500, [&] { l.restore(); }, {[&] { sink = ours(l).count; }, [&] { sink = hand(l).count; },
             [&] { sink = plain_pass(l.tableAt.data(), l.tableAt.size()); }});
-        std::printf("step, activate, %-28s", name);
+        std::printf("step, activate, %-36s", name);
         cell(t[0], t[1], t[2]);
         std::printf("\n");
     }
@@ -423,22 +466,22 @@ void runs(const std::vector<Situation> &situations) {
         still.push_back(timeRun("run, modifies", situations[i], SIZES[i], stillEvents(d, situations[i], 20000), 12));
         mixed.push_back(timeRun("run, mixed", situations[i], SIZES[i] + free, mixedEvents(d, situations[i], 1500, free), 40));
     }
-    std::printf("\nmany events in one call, time for each event%-20s", "");
+    std::printf("\nmany events in one call, time for each event%-26s", "");
     for (size_t n : SIZES) std::printf("|%10zu rows  ", n);
     auto row = [&](const char *name, const std::vector<RunTimes> &times, double (*ratio)(const RunTimes &)) {
-        std::printf("\n%-64s", name);
+        std::printf("\n%-70s", name);
         for (const RunTimes &t : times) std::printf("|%12.2f     ", ratio(t));
     };
     row("run, 20,000 modifications that move no row: ours / hand", still, [](const RunTimes &t) { return t.ours / t.hand; });
     row("run, 1,500 events of all kinds, rows move: ours / hand", mixed, [](const RunTimes &t) { return t.ours / t.hand; });
     row("ours: single step / run, the modifications", still, [](const RunTimes &t) { return t.steps / t.ours; });
     row("ours: single step / run, all kinds", mixed, [](const RunTimes &t) { return t.steps / t.ours; });
-    std::printf("\n%-64s|%12.2f\n", "ours: run at 4,096 rows / run at 64 rows, the modifications", still[2].ours / still[0].ours);
-    std::printf("%-64s|%12.2f\n", "hand: run at 4,096 rows / run at 64 rows, the modifications", still[2].hand / still[0].hand);
+    std::printf("\n%-70s|%12.2f\n", "ours: run at 4,096 rows / run at 64 rows, the modifications", still[2].ours / still[0].ours);
+    std::printf("%-70s|%12.2f\n", "hand: run at 4,096 rows / run at 64 rows, the modifications", still[2].hand / still[0].hand);
     for (const auto &[name, lists] : SELECTIONS) {
         Situation s = toActivate(lists, 64);
         RunTimes t = timeRun(name, s, 64, activations(s), 400);
-        std::printf("run, 64 activations, %-43s|%12.2f\n", (std::string(name) + ": ours / hand").c_str(), t.ours / t.hand);
+        std::printf("run, 64 activations, %-49s|%12.2f\n", (std::string(name) + ": ours / hand").c_str(), t.ours / t.hand);
     }
 }
 #endif
@@ -450,17 +493,18 @@ int main(int argc, char **argv) {
     std::setvbuf(stdout, nullptr, _IOLBF, 0);
     Dice d(3);
     std::vector<Situation> situations;
-    for (size_t n : SIZES) situations.push_back(makeRows(d, {20, 256, 64, 8, false}, n, 1000));
+    for (size_t n : SIZES) situations.push_back(makeRows(d, STEP_LISTS, n, 1000));
     std::printf("ratios of times: ours / written by hand in C, ours / a plain pass over the table's bytes; below 1 ours is faster\n");
     soundness(situations);
     std::vector<Mean> done(SIZES.size()), refused(SIZES.size());
     for (const Wanted &w : STEPS) stepRow(d, w, situations, w.outcome == DONE ? done : refused);
     meanRow("step, all done, geometric mean", done);
     meanRow("step, all refused, geometric mean", refused);
-    std::printf("\nbooks and selection at 64 rows              |     /hand    /pass\n");
-    booksRow("books check, 256 codes, 64 filters, 8 pairs", {20, 256, 64, 8, false});
+    std::printf("\n%-52s|     /hand    /pass\n", "books, selection (at 64 rows), records");
+    booksRow("books check, 256 codes, 64 filters, 8 pairs", STEP_LISTS);
     booksRow("books check, all places used", {63, 1024, 1024, 64, true});
     selections();
+    records();
 #ifdef TEST_RUN
     runs(situations);
 #endif
