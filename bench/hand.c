@@ -1,8 +1,8 @@
 /*
  * Document 01 by hand, for speed: the same calls on the same bytes (docs/LAYOUTS.md), written from the paper and not from the library.
  *
- * The soundness of the table is one pass with one load a word and no branch that data decides, apart from "unsound" itself; a number's rows
- * are found by bisection; rows and messages are written word by word; rows move by memmove.
+ * The soundness of the table is one pass with one load a word and, but for retries, no branch that goes either way in sound tables; a
+ * number's rows are found by bisection; rows and messages are written word by word; rows move by memmove.
  */
 #include "hand.h"
 
@@ -138,7 +138,10 @@ static uint64_t stray_retries(uint64_t a, uint64_t b, uint64_t c, uint64_t waiti
     return (a & ~(spread(waiting >> 1) * 7)) | (b & ~(spread(waiting >> 22) * 7)) | (c & ~(spread(waiting >> 43) * 7));
 }
 
-/* The used rows, or -1 for an unsound table. What is only compared with zero, or set with set, is taken as it stands in memory. */
+/*
+ * The used rows, or -1 for an unsound table. What is only compared with zero, or set with set, is taken as it stands in memory. Each test
+ * leaves at once: in a sound table no such branch is taken, and that costs less than keeping its answer.
+ */
 static ptrdiff_t check_table(const uint8_t *table, size_t length)
 {
     if (length % ROW != 0 || length > (size_t)MOST_ROWS * ROW) return -1;
@@ -148,28 +151,28 @@ static ptrdiff_t check_table(const uint8_t *table, size_t length)
         uint64_t w0 = load64(at), w1 = load64(at + 8);
         if (w0 == 0) break;
         uint64_t key = w0 >> 14, tn = w0 >> 30, status = w0 >> 10 & 15, live = w0 >> 9 & 1, created = w0 >> 8 & 1, old = w0 >> 7 & 1;
-        uint64_t bad = (w0 & 63) | (w1 & 31) | ((key & 0xffff) == 0) | (key <= last) | not_ten_digits(tn);
+        if (((w0 & 63) | (w1 & 31)) != 0 || (key & 0xffff) == 0 || key <= last || not_ten_digits(tn)) return -1;
         uint64_t once = ONCE[status] | live;
         seen &= -(uint64_t)(tn == last >> 16);
-        bad |= seen & once;
+        if ((seen & once) != 0) return -1;
         seen |= once;
         last = key;
 
         uint64_t lrn = w1 >> 30, one = w1 >> 24 & 63, two = w1 >> 18 & 63, mark = w1 >> 16 & 3, cause = w1 >> 9 & 127;
         uint64_t canceller = w1 >> 7 & 3, purpose = w1 >> 5 & 3;
-        bad |= ~(FITS[status] >> ((w0 >> 7 & 7) | purpose << 3 | (uint64_t)(canceller != 0) << 5)) & 1;
-        bad |= (created ^ (lrn != 0)) | (created & not_ten_digits(lrn)) | (created ^ (raw32(at + 16) != 0));
-        bad |= (old ^ (mark != 0)) | (old ^ (raw32(at + 20) != 0));
-        bad |= (uint64_t)((mark == NO) != (cause != 0)) | (cause > 99) | (mark == 3) | (canceller == 3);
-        bad |= (one == 0) | (two == 0) | (one == two);
+        uint64_t place = (w0 >> 7 & 7) | purpose << 3 | (uint64_t)(canceller != 0) << 5;
+        if ((FITS[status] >> place & 1) == 0 || canceller == 3 || one == 0 || two == 0 || one == two) return -1;
+        if (((created ^ (lrn != 0)) | (created & not_ten_digits(lrn)) | (created ^ (raw32(at + 16) != 0))) != 0) return -1;
+        if (((old ^ (mark != 0)) | (old ^ (raw32(at + 20) != 0))) != 0 || mark == 3) return -1;
+        if ((mark == NO) != (cause != 0) || cause > 99) return -1;
 
         uint64_t confirmed = raw64(at + 32), waiting = raw64(at + 40), failed = raw64(at + 48), sending = status == SENDING;
-        bad |= (raw32(at + 24) == 0) | (sending ^ (raw32(at + 28) != 0)) | (sending ^ (waiting != 0));
-        bad |= ((confirmed | waiting | failed) & NOBODY) | (confirmed & waiting) | ((confirmed | waiting) & failed);
-        bad |= live & (purpose == ACTIVATE) & (confirmed == 0) & ((waiting | failed) != 0);
-        if ((raw64(at + 56) | raw64(at + 64) | raw64(at + 72)) != 0)
-            bad |= stray_retries(load64(at + 56), load64(at + 64), load64(at + 72), load64(at + 40));
-        if (bad != 0) return -1;
+        if (raw32(at + 24) == 0 || ((sending ^ (raw32(at + 28) != 0)) | (sending ^ (waiting != 0))) != 0) return -1;
+        if ((((confirmed | waiting | failed) & NOBODY) | (confirmed & waiting) | ((confirmed | waiting) & failed)) != 0) return -1;
+        if ((live & (purpose == ACTIVATE) & (confirmed == 0) & ((waiting | failed) != 0)) != 0) return -1;
+        if ((raw64(at + 56) | raw64(at + 64) | raw64(at + 72)) != 0
+            && stray_retries(load64(at + 56), load64(at + 64), load64(at + 72), load64(at + 40)) != 0)
+            return -1;
     }
     if (!all_zero(at, (size_t)(end - at))) return -1;
     return (at - table) / ROW;
