@@ -219,7 +219,7 @@ static bool check_books(const uint8_t *providers, size_t providers_length, const
     for (i = 0; i < CODES; i++) {
         uint32_t entry = load32(codes + 4 * i), code = entry >> 6;
         if (entry == 0) break;
-        bad |= not_a_code(code) | (code <= last) | (~(present >> (entry & 63)) & 1);
+        if (not_a_code(code) || code <= last || (present >> (entry & 63) & 1) == 0) return false;
         last = code;
     }
     b->codes = i;
@@ -227,7 +227,7 @@ static bool check_books(const uint8_t *providers, size_t providers_length, const
     for (i = 0; i < FILTERS; i++) {
         uint32_t entry = load32(filters + 4 * i);
         if (entry == 0) break;
-        bad |= not_a_code(entry & 0xfffff) | (entry <= last) | (~(present >> (entry >> 20 & 63)) & 1) | (entry >> 26 != 0);
+        if (not_a_code(entry & 0xfffff) || entry <= last || entry >> 26 != 0 || (present >> (entry >> 20 & 63) & 1) == 0) return false;
         last = entry;
     }
     b->filters = i;
