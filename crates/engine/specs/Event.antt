@@ -34,9 +34,13 @@ pub record Ready (m : Marks) (b : List ℕ) (e : Event) (k : ℕ) : Type 0 where
   pub formed : wellFormed e ≡ true
   pub places : 64 ≤ k
 
+-- the table after a result: where it is done, the bytes of the changed versions
+abbrev pub tableAfter : Result → List ℕ → List ℕ
+tableAfter x t = cond (isDone (x .out)) (encode (changes (x .does) (decode t)) (rowsIn t)) t
+
 -- the outcome's number, the count, the table and the tray are those of the result
 pub record Did (x : Result) (t y after trayAfter : List ℕ) (a : Answer) : Type 0 where
   pub outcome : a .outcome ≡ numberOf (x .out)
   pub count : a .count ≡ length (x .sent)
-  pub table : after ≡ cond (isDone (x .out)) (encode (changes (x .does) (decode t)) (rowsIn t)) t
+  pub table : after ≡ tableAfter x t
   pub tray : trayAfter ≡ putAll y 0 (x .sent)

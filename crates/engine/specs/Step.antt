@@ -4,7 +4,8 @@ use Prim.Native.Nat.{ℕ}
 use mathlib.Core.Bool.{Bool, true, false, cond, _&&_}
 use mathlib.Core.List.{List, map}
 use Rattle.model.specs.Given.{Result, refuse}
-use Rattle.model.specs.Step.{Setting, step}
+use lib.Dec.{leb}
+use Rattle.model.specs.Step.{Setting, PLACES, step}
 use Rattle.record.specs.Layout.{readEvent}
 use Rattle.providers.specs.Providers.{listed, entryOf}
 use Rattle.providers.specs.declared.Listed.{Listed}
@@ -28,7 +29,15 @@ isTable (Sound n) = true
 abbrev pub formed : Listed → List ℕ → List ℕ → Bool
 formed l b t = isTable (soundnessOf t) && l .sound && soundBytes (l .marks) b
 
+-- the provider list and the books are sound, R is 0 to 7, and the tray has its places
+abbrev pub fitting : Listed → List ℕ → ℕ → ℕ → Bool
+fitting l b most places = ((l .sound && soundBytes (l .marks) b) && leb most 7) && leb PLACES places
+
 -- document 01's step of what the bytes say; where they say nothing, outcome 1
-unfoldable pub resultOf : List ℕ → List ℕ → ℕ → List ℕ → List ℕ → List ℕ → Result
-resultOf p b most e t y =
-    cond (formed (listed (map entryOf p)) b t) (step (settingOf (listed (map entryOf p) .marks) b most t y) (readEvent e) (decode t)) (refuse outcome.Unsound)
+unfoldable pub resultIn : Listed → List ℕ → ℕ → List ℕ → List ℕ → List ℕ → Result
+resultIn l b most e t y =
+    cond (formed l b t) (step (settingOf (l .marks) b most t y) (readEvent e) (decode t)) (refuse outcome.Unsound)
+
+-- the same with the provider list as bytes
+abbrev pub resultOf : List ℕ → List ℕ → ℕ → List ℕ → List ℕ → List ℕ → Result
+resultOf p = resultIn (listed (map entryOf p))

@@ -2,42 +2,42 @@
 use crate::event;
 use crate::event::Answer;
 use model::Reading;
+use providers::Listed;
 use table::scan::Soundness;
 ghost use mathlib.Core.Path.{_≡_};
+ghost use mathlib.Core.Bool.{true};
 ghost use Rattle.table.specs.Sound.{SoundTable, soundnessOf};
 ghost use Rattle.table.specs.declared.scan.Soundness.the-variants.{Sound};
+ghost use Rattle.tray.specs.Tray.{placesIn};
 ghost use Rattle.engine.specs.Event.{Did};
-ghost use Rattle.engine.specs.Step.{resultOf};
+ghost use Rattle.engine.specs.Step.{fitting, resultIn, resultOf};
 
-// A step on a sound table.
-fn on_table(
+// Provider list and books are sound, R is 0 to 7, and the tray has its places.
+pub fn fit(l: Listed, books: &[u8], most: u8, places: usize) -> bool
+    ensures { λ r. ⌜ r ≡ fitting l (now (books .entry)) most places ⌝ }
+{
+    let listed = l.sound;
+    let kept = books::sound(l.marks, books);
+    listed & kept & (most <= 7) & (64 <= places)
+}
+
+// A record on a sound table, where all else fits.
+pub fn on_fitting(
     table: &mut [u8],
     n: usize,
-    providers: &[u8],
+    l: Listed,
     books: &[u8],
     most: u8,
     event: &[u8],
     tray: &mut [u8],
 ) -> Answer
     requires { ⌜ SoundTable (now table) n ⌝ }
-    requires { ⌜ soundnessOf (now table) ≡ Sound n ⌝ }
-    ensures { λ r. ⌜ Did (resultOf (now (providers .entry)) (now (books .entry)) most (now (event .entry)) (now (table .entry)) (now (tray .entry))) (now (table .entry)) (now (tray .entry)) (now (table .exit)) (now (tray .exit)) r ⌝ }
+    requires { ⌜ (soundnessOf (now table) ≡ Sound n) × (fitting l (now books) most (placesIn (now tray)) ≡ true) ⌝ }
+    ensures { λ r. ⌜ Did (resultIn l (now (books .entry)) most (now (event .entry)) (now (table .entry)) (now (tray .entry))) (now (table .entry)) (now (tray .entry)) (now (table .exit)) (now (tray .exit)) r ⌝ }
 {
-    let l = providers::marks_of_bytes(providers);
-    let marks = l.marks;
-    let listed = l.sound;
-    let kept = books::sound(marks, books);
-    let places = tray::places(tray);
-    let sound = listed & kept & (most <= 7) & (64 <= places);
-    if !sound {
-        return Answer {
-            outcome: 1,
-            count: 0,
-        };
-    }
     let said = record::read(event);
     match said {
-        Reading::Record(e) => event::on_event(marks, books, most, table, n, e, tray),
+        Reading::Record(e) => event::on_event(l.marks, books, most, table, n, e, tray),
         Reading::Malformed => Answer {
             outcome: 2,
             count: 0,
@@ -45,7 +45,53 @@ fn on_table(
     }
 }
 
-// One event on a table, with the books, R and a tray.
+// A step on a sound table.
+fn on_table(
+    table: &mut [u8],
+    n: usize,
+    l: Listed,
+    books: &[u8],
+    most: u8,
+    event: &[u8],
+    tray: &mut [u8],
+) -> Answer
+    requires { ⌜ SoundTable (now table) n ⌝ }
+    requires { ⌜ soundnessOf (now table) ≡ Sound n ⌝ }
+    ensures { λ r. ⌜ Did (resultIn l (now (books .entry)) most (now (event .entry)) (now (table .entry)) (now (tray .entry))) (now (table .entry)) (now (tray .entry)) (now (table .exit)) (now (tray .exit)) r ⌝ }
+{
+    let places = tray::places(tray);
+    let sound = fit(l, books, most, places);
+    if !sound {
+        return Answer {
+            outcome: 1,
+            count: 0,
+        };
+    }
+    on_fitting(table, n, l, books, most, event, tray)
+}
+
+// One event on a table, with the provider list's marks, the books, R and a tray.
+pub fn step_listed(
+    table: &mut [u8],
+    l: Listed,
+    books: &[u8],
+    most: u8,
+    event: &[u8],
+    tray: &mut [u8],
+) -> Answer
+    ensures { λ r. ⌜ Did (resultIn l (now (books .entry)) most (now (event .entry)) (now (table .entry)) (now (tray .entry))) (now (table .entry)) (now (tray .entry)) (now (table .exit)) (now (tray .exit)) r ⌝ }
+{
+    let verdict = table::scan::verdict(table);
+    match verdict {
+        Soundness::Sound { used } => on_table(table, used, l, books, most, event, tray),
+        Soundness::Unsound => Answer {
+            outcome: 1,
+            count: 0,
+        },
+    }
+}
+
+// The same with the provider list as bytes.
 pub fn step(
     table: &mut [u8],
     providers: &[u8],
@@ -56,12 +102,6 @@ pub fn step(
 ) -> Answer
     ensures { λ r. ⌜ Did (resultOf (now (providers .entry)) (now (books .entry)) most (now (event .entry)) (now (table .entry)) (now (tray .entry))) (now (table .entry)) (now (tray .entry)) (now (table .exit)) (now (tray .exit)) r ⌝ }
 {
-    let verdict = table::scan::verdict(table);
-    match verdict {
-        Soundness::Sound { used } => on_table(table, used, providers, books, most, event, tray),
-        Soundness::Unsound => Answer {
-            outcome: 1,
-            count: 0,
-        },
-    }
+    let l = providers::marks_of_bytes(providers);
+    step_listed(table, l, books, most, event, tray)
 }

@@ -16,12 +16,12 @@ use Rattle.providers.specs.declared.Listed.{Listed}
 use Rattle.books.specs.Packed.{decodeBooks, soundBytes}
 use Rattle.table.specs.Table.{decode}
 use Rattle.table.specs.Sound.{rowsIn}
-use Rattle.engine.specs.Step.{settingOf, formed, resultOf}
+use Rattle.engine.specs.Step.{settingOf, formed, resultIn, resultOf}
 use Rattle.lupinenblatt.specs.Checks.{checkedBooks}
 
 -- R above 7 is refused, whatever else was lent.
 pub wide-retries : (p b : List ℕ) (most : ℕ) (e t y : List ℕ) → leb most 7 ≡ false → resultOf p b most e t y ≡ refuse outcome.Unsound
-unfolding resultOf model.step unsound
+unfolding resultIn model.step unsound
 wide-retries p b most e t y h =
     go (formed (listed (map entryOf p)) b t) refl (soundTable (line (settingOf (listed (map entryOf p) .marks) b most t y)) (rowsIn t) (decode t)) refl
     (soundBooks (decodeBooks (listed (map entryOf p) .marks) b)) refl

@@ -1,0 +1,47 @@
+-- What is proved of one step, and of many, over bytes. Each statement speaks of `resultOf`, which the promise of the step cites.
+-- Assumes nothing.
+use mathlib.Core.Path.{_≡_, refl, sym, ap, _∙_, subst}
+use Prim.Native.Nat.{ℕ, _≤_}
+use mathlib.Core.Bool.{true, false}
+use mathlib.Core.List.{List, []}
+use lib.ListN.{length}
+use Rattle.model.specs.Given.{Result}
+use Rattle.model.specs.Outcomes.{isDone}
+use Rattle.model.specs.declared.Message.{Message}
+use Rattle.table.specs.Sound.{soundnessOf}
+use Rattle.table.specs.declared.scan.Soundness.the-variants.{Sound}
+use Rattle.tray.specs.Tray.{putAll}
+use Rattle.engine.specs.declared.event.Answer.{Answer}
+use Rattle.engine.specs.Event.{Did, tableAfter}
+use Rattle.engine.specs.Step.{resultOf}
+use Rattle.engine.specs.Demands.{ByteDemand3}
+use Rattle.engine.proofs.Judging.{zero-done, other-refused}
+use Rattle.engine.proofs.Keeping.{refused-silent, result-few, usedAfter, done-scanned}
+use Rattle.engine.proofs.Bytewise.{byte-reordering}
+
+-- The promise allows one result: two steps on the same bytes leave the same table, the same tray and the same answer. [H2]
+pub did-one : (x : Result) (t y u z v w : List ℕ) (a c : Answer) → Did x t y u z a → Did x t y v w c
+    → (u ≡ v) × (z ≡ w) × (a .outcome ≡ c .outcome) × (a .count ≡ c .count)
+did-one x t y u z v w a c d e =
+    (d .table ∙ sym (e .table), d .tray ∙ sym (e .tray), d .outcome ∙ sym (e .outcome), d .count ∙ sym (e .count))
+
+module _ (p b : List ℕ) (most : ℕ) (e t y u z : List ℕ) (a : Answer) (d : Did (resultOf p b most e t y) t y u z a) where
+  -- Demand 1: after a refusal table and tray hold the bytes that they held before, and no message is told. [O1]
+  pub refusal-keeps : (a .outcome ≡ 0 → ⊥) → (u ≡ t) × (z ≡ y) × (a .count ≡ 0)
+  unfolding putAll
+  refusal-keeps h =
+      let r : isDone (resultOf p b most e t y .out) ≡ false = other-refused (resultOf p b most e t y .out) (λ q. h (d .outcome ∙ q)) in
+      let n : resultOf p b most e t y .sent ≡ [] = refused-silent p b most e t y r in
+      (d .table ∙ rw r, d .tray ∙ ap (putAll y 0) n, d .count ∙ ap length n)
+
+  -- Every outcome 0 leaves a table that the soundness check accepts. [V12]
+  pub done-accepted : a .outcome ≡ 0 → soundnessOf u ≡ Sound (usedAfter p b most e t y)
+  done-accepted h = ap soundnessOf (d .table) ∙ done-scanned p b most e t y (ap isDone (zero-done (resultOf p b most e t y .out) (sym (d .outcome) ∙ h)))
+
+  -- At most 63 messages.
+  pub few-messages : a .count ≤ 63
+  few-messages = subst (λ (n : ℕ). n ≤ 63) (sym (d .count)) (result-few p b most e t y)
+
+-- Demand 3, over bytes: see specs/Demands.antt. [H4]
+pub demand3-bytes : ByteDemand3
+demand3-bytes = byte-reordering
