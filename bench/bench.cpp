@@ -1,13 +1,15 @@
 // The library beside the hand-written calls of hand.c and a plain pass over the table's bytes: ratios of times, all from one run.
 //
-//     bench [turns]
+//     bench [rounds]
 //
 // The three take turns (library, hand, pass, library, ..) on the same memory, which is put back to the same bytes before each turn; of each
-// the shortest time counts. Before anything is timed, both calls must give the same answer, table and tray. README.md says what the rows are.
+// the shortest time counts. All rows are measured in rounds, default 5, so that no row depends on one moment. Before anything is timed, both
+// calls must give the same answer, table and tray. README.md says what the rows are.
 #include <chrono>
 #include <cmath>
 #include <cstring>
 #include <functional>
+#include <memory>
 #include <string>
 
 #include "generate.hpp"
@@ -19,7 +21,6 @@ using namespace paper;
 namespace {
 
 const std::vector<size_t> SIZES = {64, 512, 4096};
-uint64_t turns = 1;      // a factor for the number of repetitions
 volatile uint64_t sink;  // what is computed is wanted
 std::vector<std::string> differing;
 
@@ -45,22 +46,37 @@ Work often(size_t times, const Work &work) {
     };
 }
 
-// The shortest time of each, taken in turns, each after `before`; the clock's own time is taken off.
-std::vector<double> shortest(size_t repetitions, const Work &before, const std::vector<Work> &works) {
-    static const double clock = emptyTime();
-    std::vector<double> least(works.size(), 1e18);
-    for (size_t i = 0; i < repetitions * turns; i++)
-        for (size_t k = 0; k < works.size(); k++) {
-            before();
-            double a = now();
-            works[k]();
-            double b = now();
-            least[k] = std::min(least[k], std::max(b - a - clock, 0.1));
-        }
-    return least;
+// Some works to be timed in turns, each after `before`; of each the shortest time so far, the clock's own taken off.
+struct Measure {
+    size_t repetitions;
+    Work before;
+    std::vector<Work> works;
+    std::vector<double> least;
+    void round() {
+        static const double clock = emptyTime();
+        for (size_t i = 0; i < repetitions; i++)
+            for (size_t k = 0; k < works.size(); k++) {
+                before();
+                double a = now();
+                works[k]();
+                double b = now();
+                least[k] = std::min(least[k], std::max(b - a - clock, 0.1));
+            }
+    }
+    double ratio(size_t one, size_t other) const { return least[one] / least[other]; }
+};
+using Measured = std::shared_ptr<Measure>;
+
+// Everything is planned first, then measured in rounds, so that each row has its turn at several moments, and printed last.
+std::vector<Measured> measures;
+std::vector<Work> lines;
+
+Measured plan(size_t repetitions, const Work &before, const std::vector<Work> &works) {
+    measures.push_back(std::make_shared<Measure>(Measure{repetitions, before, works, std::vector<double>(works.size(), 1e18)}));
+    return measures.back();
 }
 
-size_t repetitionsFor(size_t rows) { return rows <= 64 ? 2500 : rows <= 512 ? 1500 : 500; }
+size_t repetitionsFor(size_t rows) { return rows <= 64 ? 500 : rows <= 512 ? 300 : 100; }
 
 // ---- Situations ----
 
@@ -156,10 +172,6 @@ lupinenblatt_answer hand(Lent &l, size_t event = 0) {
                      l.events.data() + event * RECORD, RECORD, l.trayAt.data(), l.trayAt.size());
 }
 
-void mustAgree(bool agree, const std::string &what) {
-    if (!agree) differing.push_back(what);
-}
-
 // ---- Printing ----
 
 void printHead() {
@@ -170,70 +182,55 @@ void printHead() {
     std::printf("\n");
 }
 
-struct Mean {
-    double logs = 0, worst = 0;
-    size_t count = 0;
-    std::string where;
-    void add(double ratio, const std::string &name) {
-        logs += std::log(ratio), count++;
-        if (ratio > worst) worst = ratio, where = name;
-    }
-};
+// Library, hand, pass; no measure where there was nothing to measure.
+void printRow(const std::string &name, const std::vector<Measured> &cells) {
+    std::printf("%-52s", name.c_str());
+    for (const Measured &m : cells)
+        if (!m) std::printf("|%10s%9s  ", "-", "-");
+        else if (m->works.size() < 3) std::printf("|%10.2f", m->ratio(0, 1));
+        else std::printf("|%10.2f%9.2f  ", m->ratio(0, 1), m->ratio(0, 2));
+    std::printf("\n");
+}
 
-void cell(double ourTime, double handTime, double passTime) { std::printf("|%10.2f%9.2f  ", ourTime / handTime, ourTime / passTime); }
-void noCell() { std::printf("|%10s%9s  ", "-", "-"); }
+void addRow(const std::string &name, const std::vector<Measured> &cells) {
+    lines.push_back([=] { printRow(name, cells); });
+}
+
+void mustAgree(bool agree, const std::string &what) {
+    if (!agree) differing.push_back(what);
+}
 
 // ---- Soundness ----
 
-void soundnessRow(const char *name, const std::vector<Lent *> &lents, const std::vector<size_t> &sizes) {
-    std::printf("%-52s", name);
-    for (size_t i = 0; i < lents.size(); i++) {
-        Lent &l = *lents[i];
-        lupinenblatt_answer a = lupinenblatt_table_check(l.tableAt.data(), l.tableAt.size()), b = hand_table_check(l.tableAt.data(), l.tableAt.size());
-        mustAgree(a.outcome == b.outcome && a.count == b.count, name);
-        size_t times = 4096 / sizes[i];
-        std::vector<double> t = shortest(400, [] {}, {
-            often(times, [&] { sink = lupinenblatt_table_check(l.tableAt.data(), l.tableAt.size()).count; }),
-            often(times, [&] { sink = hand_table_check(l.tableAt.data(), l.tableAt.size()).count; }),
-            often(times, [&] { sink = plain_pass(l.tableAt.data(), l.tableAt.size()); })});
-        cell(t[0], t[1], t[2]);
+// All rows of a table used, the same with a spare bit in the last row, and all rows free.
+void soundness(const std::vector<Situation> &situations) {
+    const std::vector<std::string> names = {"soundness: all rows used", "soundness: unsound in the last row", "soundness: all rows free"};
+    for (size_t way = 0; way < names.size(); way++) {
+        std::vector<Measured> cells;
+        for (size_t i = 0; i < SIZES.size(); i++) {
+            Situation s = situations[i];
+            if (way == 2) s.table.used.clear();
+            auto l = std::make_shared<Lent>(s, SIZES[i], 64, Bytes());
+            if (way == 1) l->tableAt[(SIZES[i] - 1) * ROW + 7] |= 1;
+            const uint8_t *t = l->tableAt.data();
+            size_t length = l->tableAt.size(), times = 4096 / SIZES[i];
+            lupinenblatt_answer a = lupinenblatt_table_check(t, length), b = hand_table_check(t, length);
+            mustAgree(a.outcome == b.outcome && a.count == b.count, names[way]);
+            cells.push_back(plan(100, [l] {}, {often(times, [=] { sink = lupinenblatt_table_check(t, length).count; }),
+                                               often(times, [=] { sink = hand_table_check(t, length).count; }),
+                                               often(times, [=] { sink = plain_pass(t, length); })}));
+        }
+        addRow(names[way], cells);
     }
-    std::printf("\n");
 }
 
-void soundness(std::vector<Situation> &situations) {
-    std::vector<Lent> used, empty, bad;
-    for (size_t i = 0; i < SIZES.size(); i++) {
-        used.emplace_back(situations[i], SIZES[i], 64, Bytes());
-        bad.push_back(used.back());
-        bad.back().tableAt[(SIZES[i] - 1) * ROW + 7] |= 1;  // a spare bit of the last row
-        Situation none = situations[i];
-        none.table.used.clear();
-        empty.emplace_back(none, SIZES[i], 64, Bytes());
-    }
-    auto row = [&](const char *name, std::vector<Lent> &lents) {
-        std::vector<Lent *> at;
-        for (Lent &l : lents) at.push_back(&l);
-        soundnessRow(name, at, SIZES);
-    };
-    printHead();
-    row("soundness: all rows used", used);
-    row("soundness: unsound in the last row", bad);
-    row("soundness: all rows free", empty);
-}
-
-void booksRow(const char *name, const Lists &l) {
+void booksRow(const char *name, const Lists &lists) {
     Dice d(5);
-    Situation s = makeRows(d, l, 64, 1000);
-    Lent lent(s, 64, 64, Bytes());
-    const uint8_t *p = lent.providers.data(), *b = lent.books.data();
+    auto l = std::make_shared<Lent>(makeRows(d, lists, 64, 1000), 64, 64, Bytes());
+    const uint8_t *p = l->providers.data(), *b = l->books.data();
     mustAgree(lupinenblatt_books_check(p, 63, b, BOOKS) == hand_books_check(p, 63, b, BOOKS), name);
-    std::vector<double> t = shortest(500, [] {}, {often(10, [&] { sink = lupinenblatt_books_check(p, 63, b, BOOKS); }),
-                                                 often(10, [&] { sink = hand_books_check(p, 63, b, BOOKS); }),
-                                                 often(10, [&] { sink = plain_pass(b, BOOKS); })});
-    std::printf("%-52s", name);
-    cell(t[0], t[1], t[2]);
-    std::printf("\n");
+    addRow(name, {plan(100, [l] {}, {often(10, [=] { sink = lupinenblatt_books_check(p, 63, b, BOOKS); }),
+                                     often(10, [=] { sink = hand_books_check(p, 63, b, BOOKS); }), often(10, [=] { sink = plain_pass(b, BOOKS); })})});
 }
 
 // ---- Records ----
@@ -241,28 +238,28 @@ void booksRow(const char *name, const Lists &l) {
 void records() {
     Dice d(23);
     Situation s = makeRows(d, STEP_LISTS, 64, 1000);
-    std::vector<Event> events;
-    Bytes bytes, out(RECORD);
+    auto events = std::make_shared<std::vector<Event>>();
+    auto bytes = std::make_shared<Bytes>();
     for (int i = 0; i < 1000; i++) {
-        events.push_back(nextEvent(d, s, 60));
-        Bytes record = packEvent(events.back());
-        bytes.insert(bytes.end(), record.begin(), record.end());
+        events->push_back(nextEvent(d, s, 60));
+        Bytes record = packEvent(events->back());
+        bytes->insert(bytes->end(), record.begin(), record.end());
     }
-    uint64_t fields[10];
-    auto readAll = [&](auto read) {
-        return [&, read] {
-            for (size_t i = 0; i < events.size(); i++) sink = read(bytes.data() + i * RECORD, RECORD, fields, 10);
+    auto readAll = [=](auto read) {
+        return [=] {
+            uint64_t fields[10];
+            for (size_t i = 0; i < events->size(); i++) sink = read(bytes->data() + i * RECORD, RECORD, fields, 10);
         };
     };
-    auto writeAll = [&](auto write) {
-        return [&, write] {
-            for (const Event &e : events)
-                sink = write(e.kind, e.sender, e.other, e.mark, e.cause, e.tn.digits, e.lrn.digits, e.version, e.time, e.due, out.data(), RECORD);
+    auto writeAll = [=](auto write) {
+        return [=] {
+            uint8_t out[RECORD];
+            for (const Event &e : *events)
+                sink = write(e.kind, e.sender, e.other, e.mark, e.cause, e.tn.digits, e.lrn.digits, e.version, e.time, e.due, out, RECORD);
         };
     };
-    std::vector<double> r = shortest(500, [] {}, {readAll(lupinenblatt_record_read), readAll(hand_record_read)});
-    std::vector<double> w = shortest(500, [] {}, {writeAll(lupinenblatt_record_write), writeAll(hand_record_write)});
-    std::printf("%-52s|%10.2f\n%-52s|%10.2f\n", "record read", r[0] / r[1], "record write", w[0] / w[1]);
+    addRow("record read", {plan(100, [] {}, {readAll(lupinenblatt_record_read), readAll(hand_record_read)})});
+    addRow("record write", {plan(100, [] {}, {writeAll(lupinenblatt_record_write), writeAll(hand_record_write)})});
 }
 
 // ---- Single steps ----
@@ -320,8 +317,16 @@ std::optional<Event> findEvent(Dice &d, const Situation &s, const Wanted &w) {
     return std::nullopt;
 }
 
-void stepRow(Dice &d, const Wanted &w, const std::vector<Situation> &situations, std::vector<Mean> &means) {
-    std::printf("step, %-46s", w.name);
+Measured planStep(const std::shared_ptr<Lent> &l, size_t rows, uint64_t outcome, const std::string &name) {
+    Lent other = *l;
+    lupinenblatt_answer a = ours(*l), b = hand(other);
+    mustAgree(a.outcome == outcome && a.outcome == b.outcome && a.count == b.count && l->same(other), name);
+    return plan(repetitionsFor(rows), [=] { l->restore(); }, {[=] { sink = ours(*l).outcome; }, [=] { sink = hand(*l).outcome; },
+                [=] { sink = plain_pass(l->tableAt.data(), l->tableAt.size()); }});
+}
+
+std::vector<Measured> stepRow(Dice &d, const Wanted &w, const std::vector<Situation> &situations) {
+    std::vector<Measured> cells;
     for (size_t i = 0; i < SIZES.size(); i++) {
         Situation s;
         std::optional<Event> e;
@@ -331,27 +336,35 @@ void stepRow(Dice &d, const Wanted &w, const std::vector<Situation> &situations,
             if (w.fresh) s.table.used.pop_back(), s.table.freeRows = 1;
             e = findEvent(d, s, w);
         }
-        if (!e) {
-            noCell();
-            continue;
-        }
-        Lent l(s, SIZES[i], 64, packEvent(*e)), other = l;
-        lupinenblatt_answer a = ours(l), b = hand(other);
-        mustAgree(a.outcome == w.outcome && a.outcome == b.outcome && a.count == b.count && l.same(other), w.name);
-        std::vector<double> t = shortest(repetitionsFor(SIZES[i]), [&] { l.restore(); },
-            {[&] { sink = ours(l).outcome; }, [&] { sink = hand(l).outcome; }, [&] { sink = plain_pass(l.tableAt.data(), l.tableAt.size()); }});
-        cell(t[0], t[1], t[2]);
-        means[i].add(t[0] / t[1], w.name);
+        cells.push_back(e ? planStep(std::make_shared<Lent>(s, SIZES[i], 64, packEvent(*e)), SIZES[i], w.outcome, w.name) : nullptr);
     }
+    addRow(std::string("step, ") + w.name, cells);
+    return cells;
+}
+
+// The geometric mean and the largest of the ratios to hand, for each size.
+void meanRow(const char *name, const std::vector<std::vector<Measured>> &rows) {
+    std::printf("%-52s", name);
+    std::vector<double> largest(SIZES.size());
+    for (size_t i = 0; i < SIZES.size(); i++) {
+        double logs = 0, count = 0;
+        for (const auto &cells : rows)
+            if (cells[i]) logs += std::log(cells[i]->ratio(0, 1)), count++, largest[i] = std::max(largest[i], cells[i]->ratio(0, 1));
+        std::printf("|%10.2f           ", std::exp(logs / std::max(count, 1.0)));
+    }
+    std::printf("\n%-52s", "  largest");
+    for (double l : largest) std::printf("|%10.2f           ", l);
     std::printf("\n");
 }
 
-void meanRow(const char *name, const std::vector<Mean> &means) {
-    std::printf("%-52s", name);
-    for (const Mean &m : means) std::printf("|%10.2f           ", std::exp(m.logs / double(m.count ? m.count : 1)));
-    std::printf("\n%-52s", "  largest");
-    for (const Mean &m : means) std::printf("|%10.2f           ", m.worst);
-    std::printf("\n");
+void steps(const std::vector<Situation> &situations) {
+    Dice d(7);
+    std::vector<std::vector<Measured>> done, refused;
+    for (const Wanted &w : STEPS) (w.outcome == DONE ? done : refused).push_back(stepRow(d, w, situations));
+    lines.push_back([=] {
+        meanRow("step, all done, geometric mean", done);
+        meanRow("step, all refused, geometric mean", refused);
+    });
 }
 
 // ---- Selection ----
@@ -392,14 +405,7 @@ const std::vector<std::pair<const char *, Lists>> SELECTIONS = {
 void selections() {
     for (const auto &[name, lists] : SELECTIONS) {
         Situation s = toActivate(lists, 64);
-        Lent l(s, 64, 64, activations(s)), other = l;
-        lupinenblatt_answer a = ours(l), b = hand(other);
-        mustAgree(a.outcome == DONE && a.outcome == b.outcome && a.count == b.count && l.same(other), name);
-        std::vector<double> t = shortest(2500, [&] { l.restore(); }, {[&] { sink = ours(l).count; }, [&] { sink = hand(l).count; },
-            [&] { sink = plain_pass(l.tableAt.data(), l.tableAt.size()); }});
-        std::printf("step, activate, %-36s", name);
-        cell(t[0], t[1], t[2]);
-        std::printf("\n");
+        addRow(std::string("step, activate, ") + name, {planStep(std::make_shared<Lent>(s, 64, 64, activations(s)), 64, DONE, name)});
     }
 }
 
@@ -445,43 +451,56 @@ Bytes stillEvents(Dice &d, const Situation &s, size_t count) {
     return out;
 }
 
-// Ours and by hand for each size, the time for each event; the same events one by one.
-struct RunTimes { double ours, hand, steps; };
+// Ours, by hand, and the first 200 of the events by single steps of ours.
+struct Run {
+    Measured times;
+    double events, stepped;
+    double oursToHand() const { return times->ratio(0, 1); }
+    double stepToRun() const { return times->ratio(2, 0) * events / stepped; }
+    double each(size_t work) const { return times->least[work] / events; }
+};
 
-RunTimes timeRun(const char *name, const Situation &s, size_t rows, const Bytes &events, size_t repetitions) {
+Run planRun(const std::string &name, const Situation &s, size_t rows, const Bytes &events, size_t repetitions) {
     size_t count = events.size() / RECORD, stepped = std::min<size_t>(count, 200);
-    Lent l(s, rows, 64 + 63 * std::min<size_t>(count, 64) + 4 * count, events), other = l;
-    mustAgree(ourRun(l) == count && handRun(other) == count && l.same(other), name);
-    std::vector<double> t = shortest(repetitions, [&] { l.restore(); }, {[&] { sink = ourRun(l); }, [&] { sink = handRun(l); }, [&] {
-        for (size_t i = 0; i < stepped; i++) sink = ours(l, i).count;
+    auto l = std::make_shared<Lent>(s, rows, 64 + 63 * std::min<size_t>(count, 64) + 4 * count, events);
+    Lent other = *l;
+    mustAgree(ourRun(*l) == count && handRun(other) == count && l->same(other), name);
+    Measured m = plan(repetitions, [=] { l->restore(); }, {[=] { sink = ourRun(*l); }, [=] { sink = handRun(*l); }, [=] {
+        for (size_t i = 0; i < stepped; i++) sink = ours(*l, i).count;
     }});
-    return {t[0] / double(count), t[1] / double(count), t[2] / double(stepped)};
+    return {m, double(count), double(stepped)};
+}
+
+void printRuns(const std::string &name, const std::vector<Run> &runs, double (Run::*ratio)() const) {
+    std::printf("%-70s", name.c_str());
+    for (const Run &r : runs) std::printf("|%12.2f     ", (r.*ratio)());
+    std::printf("\n");
 }
 
 void runs(const std::vector<Situation> &situations) {
     Dice d(17);
-    std::vector<RunTimes> still, mixed;
+    std::vector<Run> still, mixed;
     for (size_t i = 0; i < SIZES.size(); i++) {
         size_t free = std::min<size_t>(300, 4096 - SIZES[i]);
-        still.push_back(timeRun("run, modifies", situations[i], SIZES[i], stillEvents(d, situations[i], 20000), 12));
-        mixed.push_back(timeRun("run, mixed", situations[i], SIZES[i] + free, mixedEvents(d, situations[i], 1500, free), 40));
+        still.push_back(planRun("run, modifications", situations[i], SIZES[i], stillEvents(d, situations[i], 20000), 4));
+        mixed.push_back(planRun("run, all kinds", situations[i], SIZES[i] + free, mixedEvents(d, situations[i], 1500, free), 8));
     }
-    std::printf("\nmany events in one call, time for each event%-26s", "");
-    for (size_t n : SIZES) std::printf("|%10zu rows  ", n);
-    auto row = [&](const char *name, const std::vector<RunTimes> &times, double (*ratio)(const RunTimes &)) {
-        std::printf("\n%-70s", name);
-        for (const RunTimes &t : times) std::printf("|%12.2f     ", ratio(t));
-    };
-    row("run, 20,000 modifications that move no row: ours / hand", still, [](const RunTimes &t) { return t.ours / t.hand; });
-    row("run, 1,500 events of all kinds, rows move: ours / hand", mixed, [](const RunTimes &t) { return t.ours / t.hand; });
-    row("ours: single step / run, the modifications", still, [](const RunTimes &t) { return t.steps / t.ours; });
-    row("ours: single step / run, all kinds", mixed, [](const RunTimes &t) { return t.steps / t.ours; });
-    std::printf("\n%-70s|%12.2f\n", "ours: run at 4,096 rows / run at 64 rows, the modifications", still[2].ours / still[0].ours);
-    std::printf("%-70s|%12.2f\n", "hand: run at 4,096 rows / run at 64 rows, the modifications", still[2].hand / still[0].hand);
+    lines.push_back([=] {
+        std::printf("\n%-70s", "many events in one call, time for each event");
+        for (size_t n : SIZES) std::printf("|%10zu rows  ", n);
+        std::printf("\n");
+        printRuns("run, 20,000 modifications that move no row: ours / hand", still, &Run::oursToHand);
+        printRuns("run, 1,500 events of all kinds, rows move: ours / hand", mixed, &Run::oursToHand);
+        printRuns("ours: single step / run, the modifications", still, &Run::stepToRun);
+        printRuns("ours: single step / run, all kinds", mixed, &Run::stepToRun);
+        std::printf("%-70s|%12.2f\n", "ours: run at 4,096 rows / run at 64 rows, the modifications", still[2].each(0) / still[0].each(0));
+        std::printf("%-70s|%12.2f\n", "hand: run at 4,096 rows / run at 64 rows, the modifications", still[2].each(1) / still[0].each(1));
+    });
     for (const auto &[name, lists] : SELECTIONS) {
         Situation s = toActivate(lists, 64);
-        RunTimes t = timeRun(name, s, 64, activations(s), 400);
-        std::printf("run, 64 activations, %-49s|%12.2f\n", (std::string(name) + ": ours / hand").c_str(), t.ours / t.hand);
+        Run r = planRun(name, s, 64, activations(s), 80);
+        std::string title = std::string("run, 64 activations, ") + name + ": ours / hand";
+        lines.push_back([=] { printRuns(title, {r}, &Run::oursToHand); });
     }
 }
 #endif
@@ -489,18 +508,13 @@ void runs(const std::vector<Situation> &situations) {
 }  // namespace
 
 int main(int argc, char **argv) {
-    turns = argc > 1 ? std::strtoull(argv[1], nullptr, 10) : 1;
-    std::setvbuf(stdout, nullptr, _IOLBF, 0);
+    size_t rounds = argc > 1 ? std::strtoull(argv[1], nullptr, 10) : 5;
     Dice d(3);
     std::vector<Situation> situations;
     for (size_t n : SIZES) situations.push_back(makeRows(d, STEP_LISTS, n, 1000));
-    std::printf("ratios of times: ours / written by hand in C, ours / a plain pass over the table's bytes; below 1 ours is faster\n");
     soundness(situations);
-    std::vector<Mean> done(SIZES.size()), refused(SIZES.size());
-    for (const Wanted &w : STEPS) stepRow(d, w, situations, w.outcome == DONE ? done : refused);
-    meanRow("step, all done, geometric mean", done);
-    meanRow("step, all refused, geometric mean", refused);
-    std::printf("\n%-52s|     /hand    /pass\n", "books, selection (at 64 rows), records");
+    steps(situations);
+    lines.push_back([] { std::printf("\n%-52s|     /hand    /pass\n", "books, selection (at 64 rows), records"); });
     booksRow("books check, 256 codes, 64 filters, 8 pairs", STEP_LISTS);
     booksRow("books check, all places used", {63, 1024, 1024, 64, true});
     selections();
@@ -508,6 +522,11 @@ int main(int argc, char **argv) {
 #ifdef TEST_RUN
     runs(situations);
 #endif
+    for (size_t i = 0; i < rounds; i++)
+        for (const Measured &m : measures) m->round();
+    std::printf("ratios of times: ours / written by hand in C, ours / a plain pass over the table's bytes; below 1 ours is faster\n");
+    printHead();
+    for (const Work &line : lines) line();
     for (const std::string &what : differing) std::printf("THE TWO DIFFER: %s\n", what.c_str());
     return differing.empty() ? 0 : 1;
 }
