@@ -337,8 +337,8 @@ bool compareRun(Slices &s, const Bytes &events, Bytes outcomes, uint64_t &done) 
                                           at(events2), events2.size(), at(s.tray), s.tray.size(), at(outcomes), outcomes.size());
     done = m.events;
     tally.events += std::max<uint64_t>(m.events, 1), tally.runs++, tally.stops += m.outcome == DONE && m.events < events.size() / RECORD;
-    const char *what = a.outcome != m.outcome ? "run: outcome" : a.events != m.events ? "run: events done" : a.messages != m.messages ? "run: messages"
-        : outcomes != m.outcomes ? "run: outcome slice" : s.table != m.table ? "run: table" : s.tray != m.tray ? "run: tray"
+    const char *what = a.outcome != m.outcome ? "run: outcome" : a.events != m.events ? "run: events done"
+        : a.messages != m.messages ? "run: messages" : outcomes != m.outcomes ? "run: outcome slice" : s.table != m.table ? "run: table" : s.tray != m.tray ? "run: tray"
         : s.providers != before.providers || s.books != before.books || events2 != events ? "run: a slice that is only read was written to"
         : nullptr;
     if (!what) return true;
@@ -366,8 +366,8 @@ Bytes anyRecords(Dice &d, const Situation &s, size_t count) {
 }
 
 Bytes anyOutcomes(Dice &d, size_t events) {
-    size_t need = 2 * events;
-    Bytes out(d.chance(60) ? need : d.chance(60) ? need + d.between(1, 9) : need - std::min<size_t>(need, d.chance(60) ? d.between(1, 2) : d.below(need + 1)));
+    size_t need = 2 * events, less = d.chance(60) ? d.between(1, 2) : d.below(need + 1);
+    Bytes out(d.chance(60) ? need : d.chance(60) ? need + d.between(1, 9) : need - std::min(need, less));
     for (uint8_t &byte : out) byte = uint8_t(d.next());
     return out;
 }

@@ -73,7 +73,6 @@ extern "C" lupinenblatt_ran lupinenblatt_run(uint8_t *table, size_t tableLength,
     return ran;
 }
 
-#ifndef RECORDS_FROM_LIBRARY
 extern "C" uint8_t lupinenblatt_record_read(const uint8_t *bytes, size_t length, uint64_t *fields, size_t places) {
     std::optional<Fields> f = readRecord(bytes, length);
     if (!f || places != f->size()) return MALFORMED;
@@ -88,4 +87,3 @@ extern "C" uint8_t lupinenblatt_record_write(uint64_t kind, uint64_t sender, uin
     std::copy(bytes->begin(), bytes->end(), out);
     return DONE;
 }
-#endif
