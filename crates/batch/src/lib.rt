@@ -58,3 +58,44 @@ fn one(
         messages: messages + a.count as usize,
     }
 }
+
+// The records, in order, while 64 places are left.
+fn all(
+    table: &mut [u8],
+    n: usize,
+    l: Listed,
+    books: &[u8],
+    most: u8,
+    events: &[u8],
+    tray: &mut [u8],
+    outs: &mut [u8],
+) -> Ran
+    requires { ⌜ SoundTable (now table) n ⌝ }
+    requires { ⌜ (soundnessOf (now table) ≡ Sound n) × (fitting l (now books) most (placesIn (now tray)) ≡ true) × (2 * (length (now events) / RECORD) ≤ length (now outs)) ⌝ }
+    ensures { λ r. ⌜ Went 0 (steps l (now (books .entry)) most (recordsIn (now (events .entry))) (begin (now (table .entry)) (now (tray .entry)) (now (outs .entry)))) (now (table .exit)) (now (tray .exit)) (now (outs .exit)) r ⌝ }
+{
+    let count = events.len() / RECORD;
+    let mut used = n;
+    let mut messages: usize = 0;
+    let mut i: usize = 0;
+    while i < count {
+        if (tray.len() - MESSAGE * messages) / MESSAGE < PLACES {
+            return Ran {
+                outcome: 0,
+                events: i as u64,
+                messages: messages as u64,
+            };
+        }
+        let from = RECORD * i;
+        let to = from + RECORD;
+        let t = one(table, used, l, books, most, &events[from..to], tray, messages, outs, i);
+        used = t.used;
+        messages = t.messages;
+        i += 1;
+    }
+    Ran {
+        outcome: 0,
+        events: i as u64,
+        messages: messages as u64,
+    }
+}
