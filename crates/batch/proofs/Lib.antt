@@ -1,3 +1,4 @@
 -- The crate's laws.
 pub mod Turns
 pub mod Loops
+pub mod Refusing

@@ -115,10 +115,10 @@ module _ (l : Listed) (b : List ℕ) (most : ℕ) (es t₀ y₀ o₀ : List ℕ)
         let told : m′ ≡ m + length (resultAt l b most E S .sent) = ap (λ (s : Stand). s .messages) (d .is) in
         let R : Stand = record { table = v; tray = z; outs = u; events = suc i; messages = m′ } in
         let q : steps l b most (drop i (recordsIn es)) S ≡ steps l b most (drop (suc i) (recordsIn es)) R =
-            ap (λ (rs : List (List ℕ)). steps l b most rs S) (next-record i c)
-            ∙ rw p
-            (ap (λ (e : List ℕ). steps l b most (drop (suc i) (recordsIn es)) (after (resultAt l b most e S) S)) (sym record-is)
-            ∙ ap (steps l b most (drop (suc i) (recordsIn es))) (sym (d .is))) in
+        ap (λ (rs : List (List ℕ)). steps l b most rs S) (next-record i c)
+        ∙ rw p
+        (ap (λ (e : List ℕ). steps l b most (drop (suc i) (recordsIn es)) (after (resultAt l b most e S) S)) (sym record-is)
+        ∙ ap (steps l b most (drop (suc i) (recordsIn es))) (sym (d .is))) in
         record {
           sound = d .sound;
           scanned = d .scanned;

@@ -71,6 +71,10 @@ refusal l b most es t y o =
 unfoldable pub leaves : Listed → List ℕ → ℕ → List ℕ → List ℕ → List ℕ → List ℕ → Stand
 leaves l b most es t y o = cond (eqb (refusal l b most es t y o) 0) (steps l b most (recordsIn es) (begin t y o)) (begin t y o)
 
+-- the answer of a run that is refused
+abbrev pub refusedWith : ℕ → Ran
+refusedWith n = record { outcome = n; events = 0; messages = 0 }
+
 -- the answer, and the slices after it
 pub record Went (n : ℕ) (s : Stand) (after trayAfter outsAfter : List ℕ) (r : Ran) : Type 0 where
   pub said : r .outcome ≡ n

@@ -11,10 +11,12 @@ ghost use Rattle.table.specs.Sound.{SoundTable, soundnessOf};
 ghost use Rattle.table.specs.declared.scan.Soundness.the-variants.{Sound};
 ghost use Rattle.tray.specs.Tray.{messageSize, placesIn};
 ghost use Rattle.engine.specs.Step.{fitting};
-ghost use Rattle.batch.specs.Batch.{RECORD, recordsIn, Stand, resultAt, steps, begin, refusal, leaves, Went, Turned};
+ghost use Rattle.batch.specs.Batch.{RECORD, recordsIn, Stand, resultAt, steps, begin, refusal, leaves, refusedWith, Went, Turned};
 
 const RECORD: usize = 24;
+
 const MESSAGE: usize = 24;
+
 const PLACES: usize = 64;
 
 // The outcome of the whole, how many events were done, and how many messages stand in the tray.
@@ -88,7 +90,18 @@ fn all(
         }
         let from = RECORD * i;
         let to = from + RECORD;
-        let t = one(table, used, l, books, most, &events[from..to], tray, messages, outs, i);
+        let t = one(
+            table,
+            used,
+            l,
+            books,
+            most,
+            &events[from..to],
+            tray,
+            messages,
+            outs,
+            i,
+        );
         used = t.used;
         messages = t.messages;
         i += 1;
@@ -97,5 +110,64 @@ fn all(
         outcome: 0,
         events: i as u64,
         messages: messages as u64,
+    }
+}
+
+fn refused(outcome: u64) -> Ran
+    ensures { λ r. ⌜ r ≡ refusedWith outcome ⌝ }
+{
+    Ran {
+        outcome,
+        events: 0,
+        messages: 0,
+    }
+}
+
+// A run on a sound table.
+fn on_table(
+    table: &mut [u8],
+    n: usize,
+    l: Listed,
+    books: &[u8],
+    most: u8,
+    events: &[u8],
+    tray: &mut [u8],
+    outs: &mut [u8],
+) -> Ran
+    requires { ⌜ SoundTable (now table) n ⌝ }
+    requires { ⌜ soundnessOf (now table) ≡ Sound n ⌝ }
+    ensures { λ r. ⌜ Went (refusal l (now (books .entry)) most (now (events .entry)) (now (table .entry)) (now (tray .entry)) (now (outs .entry))) (leaves l (now (books .entry)) most (now (events .entry)) (now (table .entry)) (now (tray .entry)) (now (outs .entry))) (now (table .exit)) (now (tray .exit)) (now (outs .exit)) r ⌝ }
+{
+    let places = tray::places(tray);
+    let fits = engine::step::fit(l, books, most, places);
+    if !fits {
+        return refused(1);
+    }
+    if outs.len() < 2 * (events.len() / RECORD) {
+        return refused(1);
+    }
+    if events.len() % RECORD != 0 {
+        return refused(2);
+    }
+    all(table, n, l, books, most, events, tray, outs)
+}
+
+// Event records on a table, with the provider list, the books, R, a tray, and two bytes for each event's outcome and count.
+pub fn run(
+    table: &mut [u8],
+    providers: &[u8],
+    books: &[u8],
+    most: u8,
+    events: &[u8],
+    tray: &mut [u8],
+    outs: &mut [u8],
+) -> Ran
+    ensures { λ r. ⌜ Went (refusal (listed (map entryOf (now (providers .entry)))) (now (books .entry)) most (now (events .entry)) (now (table .entry)) (now (tray .entry)) (now (outs .entry))) (leaves (listed (map entryOf (now (providers .entry)))) (now (books .entry)) most (now (events .entry)) (now (table .entry)) (now (tray .entry)) (now (outs .entry))) (now (table .exit)) (now (tray .exit)) (now (outs .exit)) r ⌝ }
+{
+    let l = providers::marks_of_bytes(providers);
+    let verdict = table::scan::verdict(table);
+    match verdict {
+        Soundness::Sound { used } => on_table(table, used, l, books, most, events, tray, outs),
+        Soundness::Unsound => refused(1),
     }
 }

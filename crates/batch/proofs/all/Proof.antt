@@ -73,8 +73,7 @@ part-one-end c =
 one-requires : tie.Need-one-requires Inv-loop μ-loop
 one-requires c κs =
     let s = c .before .before .before .before .before .before .before .before .before .before .before .before in
-    let h = c .before .before .before .before .before .before .loop .inv in
-    (
+    let h = c .before .before .before .before .before .before .loop .inv in (
       h .sound,
       (
         h .scanned,
