@@ -2,3 +2,4 @@
 pub mod Turns
 pub mod Loops
 pub mod Refusing
+pub mod Theorems
