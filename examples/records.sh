@@ -4,4 +4,4 @@
 set -eu
 cd "$(dirname "$0")/.."
 rt check records >&2
-target/bin/records < crates/records/stdin | head -n "${1:-20}"
+examples/run_program records <crates/records/stdin | head -n "${1:-20}"

@@ -1,0 +1,173 @@
+// The files that the arguments name, and what is said of them on standard error: each line of an error begins with 'replay: '.
+use libc::STDERR_FILENO;
+use libc::STDOUT_FILENO;
+
+// No number of bytes that a file has.
+pub const NONE: usize = 18_446_744_073_709_551_615;
+
+// The bytes of a path's buffer, `io::buffer`.
+const PATH: usize = 4096;
+// The longest name that '.part' fits behind.
+const MOST_NAME: usize = 4090;
+
+pub fn say(text: &[u8]) {
+    io::write_all(STDERR_FILENO, b"replay: ");
+    io::write_all(STDERR_FILENO, text);
+    io::write_all(STDERR_FILENO, b"\n");
+}
+
+// The same of what an argument names.
+pub fn say_of(place: usize, text: &[u8]) {
+    let mut name = io::buffer();
+    let n = os::arg(place, &mut name);
+    io::write_all(STDERR_FILENO, b"replay: ");
+    io::write_all(STDERR_FILENO, &name[..n]);
+    io::write_all(STDERR_FILENO, b": ");
+    io::write_all(STDERR_FILENO, text);
+    io::write_all(STDERR_FILENO, b"\n");
+}
+
+// A call has just failed: why.
+pub fn fail(name: &[u8]) {
+    io::write_all(STDERR_FILENO, b"replay: ");
+    os::fail(name);
+}
+
+// Opens what can be read, which a folder cannot; -1 where it cannot be had, and says why.
+fn open_to_read(path: &[u8]) -> i32 {
+    let fd = os::open_read(path);
+    if fd < 0 {
+        fail(path);
+        return -1;
+    }
+    let mut none = [0u8; 1];
+    if libc::read(fd, &mut none[..0]) < 0 {
+        fail(path);
+        return -1;
+    }
+    fd
+}
+
+pub fn open_input(place: usize) -> i32 {
+    let mut path = io::buffer();
+    let n = os::arg(place, &mut path);
+    if os::errno() != 0 {
+        fail(b"argument");
+        return -1;
+    }
+    open_to_read(&path[..n])
+}
+
+fn is_dash(path: &[u8]) -> bool {
+    if path.len() != 1 {
+        return false;
+    }
+    path[0] == b'-'
+}
+
+// Opens a file to be written anew; '-' is standard output.
+pub fn open_output(place: usize) -> i32 {
+    let mut path = io::buffer();
+    let n = os::arg(place, &mut path);
+    if os::errno() != 0 {
+        fail(b"argument");
+        return -1;
+    }
+    if is_dash(&path[..n]) {
+        return STDOUT_FILENO;
+    }
+    let fd = os::open_overwrite(&path[..n]);
+    if fd < 0 {
+        fail(&path[..n]);
+    }
+    fd
+}
+
+// Closes a file that was written; if that fails, says why.
+pub fn close(fd: i32, name: &[u8]) -> bool {
+    let closed = libc::close(fd) == 0;
+    if !closed {
+        fail(name);
+    }
+    closed
+}
+
+// Whether the input ends here; if not, says why: it cannot be read, or is longer.
+pub fn ended(fd: i32, place: usize, longer: &[u8]) -> bool {
+    let mut path = io::buffer();
+    let n = os::arg(place, &mut path);
+    let mut more = [0u8; 1];
+    let got = libc::read(fd, &mut more);
+    if got < 0 {
+        fail(&path[..n]);
+    }
+    if got > 0 {
+        say_of(place, longer);
+    }
+    got == 0
+}
+
+// The whole file, at the start of buf, and how long it is; NONE where it cannot be read or is longer than buf, and says so.
+pub fn load(place: usize, buf: &mut [u8], longer: &[u8]) -> usize {
+    let fd = open_input(place);
+    if fd < 0 {
+        return NONE;
+    }
+    let n = io::read_full(fd, buf);
+    let whole = ended(fd, place, longer);
+    libc::close(fd);
+    if whole { n } else { NONE }
+}
+
+fn put(path: &mut [u8], at: usize, byte: u8) {
+    if at < path.len() {
+        path[at] = byte;
+    }
+}
+
+// '.part' behind the first n bytes; how long that is, or 0 where there is no room.
+fn beside(path: &mut [u8], n: usize) -> usize {
+    if n > MOST_NAME {
+        return 0;
+    }
+    put(path, n, b'.');
+    put(path, n + 1, b'p');
+    put(path, n + 2, b'a');
+    put(path, n + 3, b'r');
+    put(path, n + 4, b't');
+    n + 5
+}
+
+// Writes all of buf to a file of its own and gives it the name; on any failure that file is removed.
+fn write_whole(part: &[u8], path: &[u8], buf: &[u8]) -> bool {
+    let fd = os::open_overwrite(part);
+    if fd < 0 {
+        fail(path);
+        return false;
+    }
+    let written = io::write_all(fd, buf);
+    let closed = libc::close(fd);
+    if !written || closed != 0 || os::rename(part, path) != 0 {
+        fail(path);
+        os::unlink(part);
+        return false;
+    }
+    true
+}
+
+// The file that the argument names becomes buf, whole or not at all.
+pub fn save(place: usize, buf: &[u8]) -> bool {
+    let mut path = io::buffer();
+    let n = os::arg(place, &mut path);
+    let mut part = io::buffer();
+    os::arg(place, &mut part);
+    let m = beside(&mut part, n);
+    if m == 0 {
+        say_of(place, b"too long a name");
+        return false;
+    }
+    if m > PATH {
+        return false;
+    }
+    write_whole(&part[..m], &path[..n], buf)
+}

@@ -1,0 +1,191 @@
+/*
+ * A short day of one number, by the calls for C: provider 2 takes 3035550100 over from provider 1, with R = 1. Each event is told in words,
+ * with its outcome and its messages, and held to what is expected of it. examples/gateway.sh builds and runs it.
+ */
+#include <inttypes.h>
+#include <stdio.h>
+#include <string.h>
+
+#include "lupinenblatt.h"
+
+#define TN 3035550100u
+#define LRN 3035550000u
+#define RETRIES 1
+#define ROWS 16
+#define MOST_MESSAGES 2
+
+/* What is lent to a step. */
+typedef struct {
+    uint8_t table[ROWS * LUPINENBLATT_ROW_BYTES];
+    uint8_t providers[3];
+    uint8_t books[LUPINENBLATT_BOOKS_BYTES];
+    uint8_t tray[LUPINENBLATT_TRAY_PLACES * LUPINENBLATT_MESSAGE_BYTES];
+} desk;
+
+/* A message that is expected: to the Local SMS of a provider or to its SOA, with the version's status and the failed set. */
+typedef struct {
+    uint8_t sort, provider, local, status;
+    uint64_t failed;
+} message;
+
+/* An event of the day, and what is expected of it. */
+typedef struct {
+    const char *words;
+    uint64_t kind, sender, other, mark, lrn, version, time, due;
+    uint64_t outcome, count;
+    message messages[MOST_MESSAGES];
+} event;
+
+#define SOA 0
+#define LOCAL 1
+#define SET(provider) ((uint64_t)1 << (provider))
+
+static const event day[] = {
+    {"2 creates as the new side, from 1, due at 100", LUPINENBLATT_NEW_CREATES, 2, 1, 0, LRN, 0, 10, 100, LUPINENBLATT_DONE, 2,
+     {{LUPINENBLATT_CREATION, 1, SOA, LUPINENBLATT_PENDING, 0}, {LUPINENBLATT_CREATION, 2, SOA, LUPINENBLATT_PENDING, 0}}},
+    {"1 creates as the old side, says yes", LUPINENBLATT_OLD_CREATES, 1, 2, LUPINENBLATT_YES, 0, 0, 20, 100, LUPINENBLATT_DONE, 2,
+     {{LUPINENBLATT_ATTRIBUTES, 1, SOA, LUPINENBLATT_PENDING, 0}, {LUPINENBLATT_ATTRIBUTES, 2, SOA, LUPINENBLATT_PENDING, 0}}},
+    {"2 activates, a second before it is due", LUPINENBLATT_ACTIVATE, 2, 0, 0, 0, 1, 99, 0, LUPINENBLATT_EARLY, 0, {{0, 0, 0, 0, 0}}},
+    {"2 activates", LUPINENBLATT_ACTIVATE, 2, 0, 0, 0, 1, 100, 0, LUPINENBLATT_DONE, 2,
+     {{LUPINENBLATT_DOWNLOAD_CREATE, 1, LOCAL, LUPINENBLATT_SENDING, 0}, {LUPINENBLATT_DOWNLOAD_CREATE, 2, LOCAL, LUPINENBLATT_SENDING, 0}}},
+    {"the Local SMS of 1 replies: success", LUPINENBLATT_REPLY, 1, 0, LUPINENBLATT_YES, 0, 1, 105, 0, LUPINENBLATT_DONE, 0, {{0, 0, 0, 0, 0}}},
+    {"the Local SMS of 2 is silent", LUPINENBLATT_SILENCE, 0, 2, 0, 0, 1, 110, 0, LUPINENBLATT_DONE, 1,
+     {{LUPINENBLATT_DOWNLOAD_CREATE, 2, LOCAL, LUPINENBLATT_SENDING, 0}}},
+    {"the Local SMS of 2 is silent again", LUPINENBLATT_SILENCE, 0, 2, 0, 0, 1, 115, 0, LUPINENBLATT_DONE, 2,
+     {{LUPINENBLATT_STATUS, 1, SOA, LUPINENBLATT_PARTIAL_FAILURE, SET(2)}, {LUPINENBLATT_STATUS, 2, SOA, LUPINENBLATT_PARTIAL_FAILURE, SET(2)}}},
+    {"the Local SMS of 2 replies after all", LUPINENBLATT_REPLY, 2, 0, LUPINENBLATT_YES, 0, 1, 120, 0, LUPINENBLATT_UNAWAITED, 0,
+     {{0, 0, 0, 0, 0}}},
+    {"the NPAC resends", LUPINENBLATT_RESEND, 0, 0, 0, 0, 1, 200, 0, LUPINENBLATT_DONE, 1,
+     {{LUPINENBLATT_DOWNLOAD_CREATE, 2, LOCAL, LUPINENBLATT_SENDING, 0}}},
+    {"the Local SMS of 2 replies: success", LUPINENBLATT_REPLY, 2, 0, LUPINENBLATT_YES, 0, 1, 205, 0, LUPINENBLATT_DONE, 2,
+     {{LUPINENBLATT_STATUS, 1, SOA, LUPINENBLATT_ACTIVE, 0}, {LUPINENBLATT_STATUS, 2, SOA, LUPINENBLATT_ACTIVE, 0}}},
+    {"the NPAC purges", LUPINENBLATT_PURGE, 0, 0, 0, 0, 1, 300, 0, LUPINENBLATT_MISPLACED, 0, {{0, 0, 0, 0, 0}}},
+};
+
+static const char *const outcomes[] = {
+    "done", "table, books, R or tray unsound", "record malformed", "sender or other not present", "code not listed",
+    "no such version", "sender lacks the standing", "status does not allow it", "too early", "does not fit the worked version",
+    "number busy", "not awaited", "the old side is not the current provider", "no free row", "version numbers used up",
+};
+
+static const char *const statuses[] = {
+    "pending", "conflict", "cancel-pending", "sending", "failed", "partial-failure", "active", "old", "canceled",
+};
+
+static const char *const sorts[] = {
+    "no message", "creation", "status", "attributes", "download create", "download modify", "download delete", "window",
+};
+
+#define NAME(names, number) ((number) < sizeof(names) / sizeof *(names) ? (names)[number] : "unknown")
+
+/* Prints a set of providers, as "2" or "1, 3". */
+static void print_set(uint64_t set)
+{
+    const char *between = "";
+    for (unsigned provider = 1; provider <= LUPINENBLATT_PROVIDERS_BYTES; provider++)
+        if (set >> provider & 1) {
+            printf("%s%u", between, provider);
+            between = ", ";
+        }
+}
+
+static void print_message(const uint8_t *place)
+{
+    uint64_t failed = lupinenblatt_message_failed(place), lrn = lupinenblatt_message_lrn(place);
+    printf("        %s to the %s of provider %u: %" PRIu64 " version %u is %s", NAME(sorts, lupinenblatt_message_sort(place)),
+           lupinenblatt_message_local(place) ? "Local SMS" : "SOA", lupinenblatt_message_provider(place), lupinenblatt_message_tn(place),
+           lupinenblatt_message_version(place), NAME(statuses, lupinenblatt_message_status(place)));
+    if (lrn != 0)
+        printf(", LRN %" PRIu64, lrn);
+    if (failed != 0) {
+        printf(", failed at ");
+        print_set(failed);
+    }
+    printf("\n");
+}
+
+static int is_message(const uint8_t *place, const message *m)
+{
+    return lupinenblatt_message_sort(place) == m->sort && lupinenblatt_message_provider(place) == m->provider
+        && lupinenblatt_message_local(place) == m->local && lupinenblatt_message_status(place) == m->status
+        && lupinenblatt_message_failed(place) == m->failed && lupinenblatt_message_tn(place) == TN
+        && lupinenblatt_message_version(place) == 1;
+}
+
+/* An empty table, providers 1 to 3 with Local SMSs, code 303555 owned by 1, and the filter (3, 303555). */
+static void set_up(desk *d)
+{
+    memset(d, 0, sizeof *d);
+    memset(d->providers, LUPINENBLATT_PROVIDER_LOCAL, sizeof d->providers);
+    memcpy(d->books + 8, "\x01\x28\x70\xc1", 4);
+    memcpy(d->books + 4104, "\x00\x34\xa1\xc3", 4);
+    memset(d->tray, 0xa5, sizeof d->tray);
+}
+
+/* Whether the tray's messages, and all that has to stay as it was, are as expected. */
+static int is_expected(const event *e, lupinenblatt_answer a, const desk *before, const desk *after)
+{
+    size_t written = e->count * LUPINENBLATT_MESSAGE_BYTES;
+    if (a.outcome != e->outcome || a.count != e->count)
+        return 0;
+    for (size_t i = 0; i < e->count; i++)
+        if (!is_message(after->tray + i * LUPINENBLATT_MESSAGE_BYTES, &e->messages[i]))
+            return 0;
+    if (memcmp(before->tray + written, after->tray + written, sizeof after->tray - written) != 0)
+        return 0;
+    return a.outcome == LUPINENBLATT_DONE || memcmp(before->table, after->table, sizeof after->table) == 0;
+}
+
+/* One event: told, stepped, told again. Answers whether all came out as expected. */
+static int run(desk *d, const event *e)
+{
+    static desk before;
+    uint8_t record[LUPINENBLATT_RECORD_BYTES];
+    lupinenblatt_answer a;
+    if (lupinenblatt_record_write(e->kind, e->sender, e->other, e->mark, 0, TN, e->lrn, e->version, e->time, e->due, record, sizeof record)
+        != LUPINENBLATT_DONE) {
+        printf("%4" PRIu64 "  %s: NOT WRITTEN\n", e->time, e->words);
+        return 0;
+    }
+    before = *d;
+    a = lupinenblatt_step(d->table, sizeof d->table, d->providers, sizeof d->providers, d->books, sizeof d->books, RETRIES, record,
+                          sizeof record, d->tray, sizeof d->tray);
+    printf("%4" PRIu64 "  %s: %s\n", e->time, e->words, NAME(outcomes, a.outcome));
+    for (size_t i = 0; i < a.count && i < LUPINENBLATT_TRAY_PLACES; i++)
+        print_message(d->tray + i * LUPINENBLATT_MESSAGE_BYTES);
+    if (a.outcome != LUPINENBLATT_DONE)
+        printf("        %s\n", memcmp(&before, d, sizeof before) == 0 ? "no byte of table or tray changed" : "BYTES CHANGED");
+    if (is_expected(e, a, &before, d))
+        return 1;
+    printf("        NOT AS EXPECTED\n");
+    return 0;
+}
+
+/* The number's row at the end of the day, printed, and whether it is as expected. */
+static int close_day(const desk *d)
+{
+    const uint8_t *row = d->table;
+    lupinenblatt_answer checked = lupinenblatt_table_check(d->table, sizeof d->table);
+    printf("\n%" PRIu64 " version %u is %s with provider %u, LRN %" PRIu64 "; confirmed by ", lupinenblatt_row_tn(row),
+           lupinenblatt_row_version(row), NAME(statuses, lupinenblatt_row_status(row)), lupinenblatt_row_new_provider(row),
+           lupinenblatt_row_lrn(row));
+    print_set(lupinenblatt_row_confirmed(row));
+    printf("\n");
+    return checked.outcome == LUPINENBLATT_DONE && checked.count == 1 && lupinenblatt_row_tn(row) == TN && lupinenblatt_row_version(row) == 1
+        && lupinenblatt_row_status(row) == LUPINENBLATT_ACTIVE && lupinenblatt_row_live(row) && lupinenblatt_row_new_provider(row) == 2
+        && lupinenblatt_row_lrn(row) == LRN && lupinenblatt_row_confirmed(row) == (SET(1) | SET(2)) && lupinenblatt_row_waiting(row) == 0
+        && lupinenblatt_row_failed(row) == 0;
+}
+
+int main(void)
+{
+    static desk d;
+    size_t count = sizeof day / sizeof *day;
+    unsigned wrong = 0;
+    set_up(&d);
+    for (size_t i = 0; i < count; i++)
+        wrong += !run(&d, &day[i]);
+    wrong += !close_day(&d);
+    printf("%u events and the table after them, %u not as expected\n", (unsigned)count, wrong);
+    return wrong == 0 ? 0 : 1;
+}
