@@ -55,7 +55,7 @@ fn on_create(
     let owner = books::owner(books, e.tn.0 / 10000);
     let free = n < table.len() / ROW;
     let o = judge::create(e, gone, owner, f, free);
-    let outcome = judge::number(o);
+    let outcome = model::numbers::number(o);
     if outcome != 0 {
         return Answer { outcome, count: 0 };
     }
@@ -84,7 +84,7 @@ fn on_answer(
     match asked {
         Seen::One(i, v) => {
             let o = judge::answer(e, gone, v);
-            let outcome = judge::number(o);
+            let outcome = model::numbers::number(o);
             if outcome != 0 {
                 return Answer { outcome, count: 0 };
             }
@@ -93,7 +93,7 @@ fn on_answer(
         }
         Seen::Nobody => {
             let o = judge::unknown(gone);
-            let outcome = judge::number(o);
+            let outcome = model::numbers::number(o);
             Answer { outcome, count: 0 }
         }
     }
@@ -120,7 +120,7 @@ fn on_other(
     match asked {
         Seen::One(i, v) => {
             let o = judge::other(e, gone, f, v);
-            let outcome = judge::number(o);
+            let outcome = model::numbers::number(o);
             if outcome != 0 {
                 return Answer { outcome, count: 0 };
             }
@@ -129,7 +129,7 @@ fn on_other(
         }
         Seen::Nobody => {
             let o = judge::unknown(gone);
-            let outcome = judge::number(o);
+            let outcome = model::numbers::number(o);
             Answer { outcome, count: 0 }
         }
     }

@@ -11,7 +11,7 @@ ghost use mathlib.Core.List.{[], _∷_};
 ghost use Prim.Native.Nat.{_<_};
 ghost use lib.Dec.{eqb, ltb, leb};
 ghost use Rattle.model.specs.Basics.{among, holds, isNone};
-ghost use Rattle.model.specs.Outcomes.{isDone, numberOf};
+ghost use Rattle.model.specs.Outcomes.{isDone};
 ghost use Rattle.model.specs.Record.{isBroadcast};
 ghost use Rattle.model.specs.Standing.{isGridKind, unready, lacksStanding, wrongStatus};
 ghost use Rattle.model.specs.Creates.{currentOr, fits};
@@ -19,29 +19,6 @@ ghost use Rattle.model.specs.Answers.{awaited};
 ghost use Rattle.model.specs.Refusals.{beforeStart, beforeDue, idle};
 ghost use Rattle.table.specs.Survey.{theOne};
 ghost use Rattle.engine.specs.Judged.{missingIn, absentIn, createBy, createFor, unknownBy, answerBy, answerFor, otherBy, busyFor, otherFor};
-
-// The paper's number of an outcome.
-pub fn number(o: Outcome) -> u64
-    ensures { λ r. ⌜ r ≡ numberOf o ⌝ }
-{
-    match o {
-        Outcome::Done => 0,
-        Outcome::Unsound => 1,
-        Outcome::Malformed => 2,
-        Outcome::Absent => 3,
-        Outcome::Unlisted => 4,
-        Outcome::Unknown => 5,
-        Outcome::Standless => 6,
-        Outcome::Misplaced => 7,
-        Outcome::Early => 8,
-        Outcome::Unfit => 9,
-        Outcome::Busy => 10,
-        Outcome::Unawaited => 11,
-        Outcome::NotCurrent => 12,
-        Outcome::Full => 13,
-        Outcome::Exhausted => 14,
-    }
-}
 
 // ---- sender and other
 
