@@ -155,6 +155,32 @@ lupinenblatt_answer lupinenblatt_step_default(uint8_t *table, size_t table_lengt
                                               const uint8_t *books, size_t books_length, const uint8_t *event, size_t event_length,
                                               uint8_t *tray, size_t tray_length);
 
+/* What a run says: the outcome of the whole, how many events it did, and how many messages stand in the tray from its first place on. */
+typedef struct {
+    uint64_t outcome;
+    uint64_t events;
+    uint64_t messages;
+} lupinenblatt_ran;
+
+/*
+ * Many events on a table: records of 24 bytes, one after the other, done in order exactly as repeated calls of lupinenblatt_step would, each
+ * event's messages behind those of the event before it. The table's soundness is checked once.
+ *
+ * The answer's outcome is LUPINENBLATT_UNSOUND where the table, the provider list or the books are unsound, R is above 7, the tray has fewer
+ * than 64 whole places, or `outcomes` has fewer than two bytes for each whole record; otherwise LUPINENBLATT_MALFORMED where the records are
+ * not whole. With either nothing is done: `events` and `messages` are 0, and table, tray and outcomes hold the bytes that they held before.
+ *
+ * Otherwise it is LUPINENBLATT_DONE, and the events were done in order, up to the end or to the first event for which fewer than 64 whole
+ * places of the tray were left. Of the event at place i (from 0) the bytes 2 i and 2 i + 1 of `outcomes` are the outcome and the count of its
+ * messages, as lupinenblatt_step would answer them; an event that is refused, also a malformed record, changes nothing else, and the next one
+ * goes on. `events` is how many were done, `messages` the sum of their counts. Bytes of the tray behind the messages and bytes of `outcomes`
+ * behind the last event done are as they were, and the table is sound again. To go on, call again with the records from `events` on and an
+ * empty tray.
+ */
+lupinenblatt_ran lupinenblatt_run(uint8_t *table, size_t table_length, const uint8_t *providers, size_t providers_length,
+                                  const uint8_t *books, size_t books_length, uint64_t retries, const uint8_t *events, size_t events_length,
+                                  uint8_t *tray, size_t tray_length, uint8_t *outcomes, size_t outcomes_length);
+
 /*
  * Whether bytes are a sound table: LUPINENBLATT_DONE and the number of used rows as `count`, or LUPINENBLATT_UNSOUND and 0. A step makes
  * this check itself.

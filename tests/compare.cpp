@@ -2,7 +2,8 @@
 //
 //     compare [events] [seed] [first sequence]
 //
-// Sequences of events over sound situations, with damaged slices between; neighbours exchanged as demand 3 allows; records; the 35 flows.
+// Sequences of events over sound situations, with damaged slices between; neighbours exchanged as demand 3 allows; many events in one call;
+// the checks of soundness alone; records; the 35 flows.
 // Sequence n of a seed is always the same, so a difference is replayed with its seed and its number.
 #include <cstdio>
 #include <cstring>
@@ -25,7 +26,7 @@ struct Slices {
 };
 
 struct Tally {
-    uint64_t events = 0, differ = 0, records = 0, exchanged = 0, unsoundAfter = 0;
+    uint64_t events = 0, differ = 0, records = 0, exchanged = 0, unsoundAfter = 0, checks = 0, runs = 0, stops = 0;
     uint64_t outcomes[17][16] = {};  // by kind (0 and 16: no kind) and outcome
     uint64_t seed = 0, sequence = 0;
 } tally;
@@ -63,9 +64,12 @@ void report(const char *what, const Slices &before, const Bytes &record) {
     std::printf("as a scenario:\n%s", textOf(Scenario{*b, *t, before.R, before.tray.size() / MESSAGE, {record}}).c_str());
 }
 
-lupinenblatt_answer callLibrary(Slices &s, const Bytes &record) {
+uint8_t *at(const Bytes &bytes) {
     static uint8_t nothing[1];  // a slice's pointer is never null
-    auto at = [](auto &bytes) { return bytes.empty() ? nothing : const_cast<uint8_t *>(bytes.data()); };
+    return bytes.empty() ? nothing : const_cast<uint8_t *>(bytes.data());
+}
+
+lupinenblatt_answer callLibrary(Slices &s, const Bytes &record) {
     if (s.shortCall)
         return lupinenblatt_step_default(at(s.table), s.table.size(), at(s.providers), s.providers.size(), at(s.books), s.books.size(),
                                          at(record), record.size(), at(s.tray), s.tray.size());
@@ -121,20 +125,44 @@ Slices slicesOf(Dice &d, const Situation &s) {
     return out;
 }
 
-// An event on damaged copies of the slices; some damage leaves them sound, and then the event counts as any other.
-bool compareDamaged(Dice &d, const Slices &sane, const Situation &now, const Event &e) {
-    Slices s = sane;
+// One of the slices or R damaged.
+void damage(Dice &d, Slices &s, const Situation &now) {
     s.shortCall = false;
-    Bytes record = packEvent(e);
     uint64_t way = d.below(100);
     if (way < 55) s.table = damagedTable(d, now.table);
     else if (way < 78) s.books = damagedBooks(d, now.books);
     else if (way < 86) s.providers = damagedProviders(d, now.books);
     else if (way < 93) s.tray.resize(d.pick(std::vector<size_t>{0, 1, 24, 63 * 24, 63 * 24 + 23, 64 * 24, 64 * 24 + 1, 100 * 24}));
     else s.R = d.chance(60) ? d.between(7, 9) : d.chance(50) ? d.next() : uint64_t(1) << d.between(3, 63);
+}
+
+// The checks of soundness alone: what they answer of these slices, and that they write nothing.
+bool compareChecks(const Slices &s, const std::optional<Table> &table, const std::optional<Books> &books) {
+#ifdef TEST_CHECKS
+    Slices kept = s;
+    tally.checks++;
+    lupinenblatt_answer a = lupinenblatt_table_check(at(kept.table), kept.table.size());
+    uint64_t b = lupinenblatt_books_check(at(kept.providers), kept.providers.size(), at(kept.books), kept.books.size());
+    bool tableSound = table && sound(*table), booksSound = books && sound(*books);
+    const char *what = a.outcome != (tableSound ? DONE : UNSOUND) ? "table_check: outcome"
+        : a.count != (tableSound ? table->used.size() : 0) ? "table_check: used rows" : b != (booksSound ? DONE : UNSOUND) ? "books_check"
+        : kept.table != s.table || kept.providers != s.providers || kept.books != s.books ? "a check wrote" : nullptr;
+    if (what) report(what, s, Bytes());
+    return !what;
+#else
+    return (void)s, (void)table, (void)books, true;
+#endif
+}
+
+// An event on damaged copies of the slices; some damage leaves them sound, and then the event counts as any other.
+bool compareDamaged(Dice &d, const Slices &sane, const Situation &now, const Event &e) {
+    Slices s = sane;
+    Bytes record = packEvent(e);
+    damage(d, s, now);
     if (d.chance(10)) record = damagedRecord(d, e);
     std::optional<Table> table = unpackTable(s.table.data(), s.table.size());
     std::optional<Books> books = unpackBooks(s.providers.data(), s.providers.size(), s.books.data(), s.books.size());
+    if (!compareChecks(s, table, books)) return false;
     return compareStep(s, record, table, books);
 }
 
@@ -186,6 +214,7 @@ void runSequence(Dice &d) {
     std::optional<Table> table = s.table;
     std::optional<Books> books = s.books;
     size_t length = s.table.used.size() + s.table.freeRows > 1000 ? 12 : d.between(20, 140);
+    if (!compareChecks(slices, table, books)) return;
     for (size_t i = 0; i < length; i++) {
         Event e = nextEvent(d, s, 75);
         if (d.chance(9) && !compareDamaged(d, slices, s, sensible(d, s, d.pick(s.tns)))) return;
@@ -268,6 +297,108 @@ void runExchange(Dice &d) {
     for (size_t i = 0; i < count; i++) std::printf("event %s   %zu\n", hexOf(packEvent(events[i]).data(), RECORD).c_str(), other[i] + 1);
 }
 
+// ---- Many events in one call ----
+
+#ifdef TEST_RUN
+// What the model makes of the same call: step after step, each event's messages behind those before it.
+struct ModelRan {
+    uint64_t outcome = UNSOUND, events = 0, messages = 0;
+    Bytes table, tray, outcomes;
+};
+
+ModelRan modelRun(const Slices &s, const Bytes &events, const Bytes &outcomes) {
+    ModelRan m;
+    m.table = s.table, m.tray = s.tray, m.outcomes = outcomes;
+    std::optional<Table> table = unpackTable(s.table.data(), s.table.size());
+    std::optional<Books> books = unpackBooks(s.providers.data(), s.providers.size(), s.books.data(), s.books.size());
+    bool good = table && sound(*table) && books && sound(*books) && s.R <= 7 && s.tray.size() / MESSAGE >= PLACES;
+    if (!good || outcomes.size() < events.size() / RECORD * 2) return m;
+    m.outcome = events.size() % RECORD == 0 ? DONE : MALFORMED;
+    if (m.outcome != DONE) return m;
+    for (size_t from = 0; from < events.size(); from += RECORD) {
+        size_t left = s.tray.size() / MESSAGE - m.messages;
+        if (left < PLACES) break;
+        Result r = step(table, books, s.R, unpackEvent(events.data() + from, RECORD), left);
+        packTray(r.messages, m.tray.data() + m.messages * MESSAGE);
+        m.outcomes[2 * m.events] = uint8_t(r.outcome), m.outcomes[2 * m.events + 1] = uint8_t(r.messages.size());
+        m.events++, m.messages += r.messages.size();
+        tally.outcomes[std::min<int>(events[from], 16)][r.outcome]++;
+    }
+    packTable(*table, m.table);
+    return m;
+}
+
+// One call. The table of the slices is then the one after it; done is how many events were.
+bool compareRun(Slices &s, const Bytes &events, Bytes outcomes, uint64_t &done) {
+    Slices before = s;
+    Bytes events2 = events;
+    ModelRan m = modelRun(s, events, outcomes);
+    lupinenblatt_ran a = lupinenblatt_run(at(s.table), s.table.size(), at(s.providers), s.providers.size(), at(s.books), s.books.size(), s.R,
+                                          at(events2), events2.size(), at(s.tray), s.tray.size(), at(outcomes), outcomes.size());
+    done = m.events;
+    tally.events += std::max<uint64_t>(m.events, 1), tally.runs++, tally.stops += m.outcome == DONE && m.events < events.size() / RECORD;
+    const char *what = a.outcome != m.outcome ? "run: outcome" : a.events != m.events ? "run: events done"
+        : a.messages != m.messages ? "run: messages" : outcomes != m.outcomes ? "run: outcome slice" : s.table != m.table ? "run: table" : s.tray != m.tray ? "run: tray"
+        : s.providers != before.providers || s.books != before.books || events2 != events ? "run: a slice that is only read was written to"
+        : nullptr;
+    if (!what) return true;
+    report(what, before, events);
+    std::printf("model: outcome %llu, %llu events, %llu messages; library: outcome %llu, %llu events, %llu messages; outcome slice of %zu bytes\n",
+                (unsigned long long)m.outcome, (unsigned long long)m.events, (unsigned long long)m.messages, (unsigned long long)a.outcome,
+                (unsigned long long)a.events, (unsigned long long)a.messages, outcomes.size());
+    return false;
+}
+
+// Records for events that fit the situation one after the other, some of them malformed.
+Bytes anyRecords(Dice &d, const Situation &s, size_t count) {
+    Bytes out;
+    Situation now = s;
+    std::optional<Table> table = s.table;
+    std::optional<Books> books = s.books;
+    for (size_t i = 0; i < count; i++) {
+        Event e = nextEvent(d, now, 80);
+        Bytes record = d.chance(7) ? damagedRecord(d, e) : packEvent(e);
+        record.resize(RECORD);
+        out.insert(out.end(), record.begin(), record.end());
+        if (step(table, books, s.R, unpackEvent(record.data(), RECORD), PLACES).outcome == DONE) now.table = *table;
+    }
+    return out;
+}
+
+Bytes anyOutcomes(Dice &d, size_t events) {
+    size_t need = 2 * events, less = d.chance(60) ? d.between(1, 2) : d.below(need + 1);
+    Bytes out(d.chance(60) ? need : d.chance(60) ? need + d.between(1, 9) : need - std::min(need, less));
+    for (uint8_t &byte : out) byte = uint8_t(d.next());
+    return out;
+}
+
+// A list of events in as many calls as the tray makes of it: a stop is gone on from with the tray as it then is. Some calls are damaged.
+void runRuns(Dice &d) {
+    Situation s = makeSituation(d, anyFreeRows(d));
+    Slices slices = slicesOf(d, s);
+    slices.tray.resize(MESSAGE * (d.chance(30) ? PLACES : PLACES + d.below(60)) + d.below(30));
+    Bytes events = anyRecords(d, s, s.table.used.size() + s.table.freeRows > 1000 ? 8 : d.below(70));
+    for (int again = 0; again < 8; again++) {
+        uint64_t done = 0;
+        if (d.chance(40)) {
+            Slices damaged = slices;
+            damage(d, damaged, s);
+            if (!compareRun(damaged, events, anyOutcomes(d, events.size() / RECORD), done)) return;
+        }
+        if (d.chance(15)) {
+            Slices part = slices;
+            Bytes cut = events;
+            cut.resize(d.chance(50) ? d.below(events.size() + 1) : events.size() + d.between(1, 40));
+            if (!compareRun(part, cut, anyOutcomes(d, cut.size() / RECORD), done)) return;
+        }
+        if (!compareRun(slices, events, anyOutcomes(d, events.size() / RECORD), done)) return;
+        events.erase(events.begin(), events.begin() + long(done * RECORD));
+        s.table = *unpackTable(slices.table.data(), slices.table.size());
+        if (events.empty()) return;
+    }
+}
+#endif
+
 // ---- Flows ----
 
 void runFlow(const std::filesystem::path &path) {
@@ -319,8 +450,9 @@ void printTally() {
     }
     std::printf("all         ");
     for (int o = 0; o < 15; o++) std::printf("%9llu", (unsigned long long)sums[o]);
-    std::printf("\n%.1f%% done; %llu records compared; %llu neighbours exchanged\n", 100.0 * double(sums[0]) / double(all ? all : 1),
-                (unsigned long long)tally.records, (unsigned long long)tally.exchanged);
+    std::printf("\n%.1f%% done; %llu records compared; %llu neighbours exchanged; %llu checks; %llu runs, %llu of them stopped by the tray\n",
+                100.0 * double(sums[0]) / double(all ? all : 1), (unsigned long long)tally.records, (unsigned long long)tally.exchanged,
+                (unsigned long long)tally.checks, (unsigned long long)tally.runs, (unsigned long long)tally.stops);
 }
 
 }  // namespace
@@ -333,6 +465,9 @@ int main(int argc, char **argv) {
     for (; tally.events < wanted && tally.differ < 10; tally.sequence++) {
         Dice d(tally.seed * 1000003 + tally.sequence * 0x2545f4914f6cdd1d);
         if (tally.sequence % 5 == 0) runExchange(d);
+#ifdef TEST_RUN
+        else if (tally.sequence % 5 == 3) runRuns(d);
+#endif
         else runSequence(d);
         if (argc > 3) break;
     }

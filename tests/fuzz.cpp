@@ -5,7 +5,8 @@
 // Each slice lies alone in memory, at any start: guard bytes stand before and behind it, and where it ends or begins a page, the next page
 // may not be touched at all, not even read. A fault is: a byte changed by a refusal, or outside a slice, or of a slice that is only read, or
 // of the tray behind its messages; an outcome above 14; outcome 1 or 2 where the model's checks say otherwise; outcome 0 with an unsound
-// table left or more than 63 messages. What an accepted event should do is asked by compare, not here.
+// table left or more than 63 messages. Of many events in one call the same, and that it stops where the tray says so. What an accepted event
+// should do is asked by compare, not here.
 #include <csignal>
 #include <cstdio>
 #include <cstring>
@@ -143,7 +144,23 @@ Input makeInput(Dice &d, const Situation &s) {
 
 // ---- Checks ----
 
-struct Places { Place table, providers, books, event, tray; };
+struct Places { Place table, providers, books, event, tray, outcomes; };
+
+bool soundInput(const Input &in) {
+    std::optional<Table> t = unpackTable(in.table.data(), in.table.size());
+    std::optional<Books> b = unpackBooks(in.providers.data(), in.providers.size(), in.books.data(), in.books.size());
+    return t && sound(*t) && b && sound(*b) && in.R <= 7 && in.tray.size() / MESSAGE >= PLACES;
+}
+
+bool soundAfter(const Bytes &table) {
+    std::optional<Table> t = unpackTable(table.data(), table.size());
+    return t && sound(*t);
+}
+
+void printInput(const Input &in) {
+    std::printf("R %llu\nevent %s\ntable %s\nproviders %s\nbooks %s\ntray %s\n", (unsigned long long)in.R, shortHex(in.event).c_str(),
+                shortHex(in.table).c_str(), shortHex(in.providers).c_str(), shortHex(in.books).c_str(), shortHex(in.tray).c_str());
+}
 
 void checkStep(Dice &d, Places &p, const Input &in, uint64_t outcomes[16]) {
     uint8_t *table = p.table.lay(d, in.table), *providers = p.providers.lay(d, in.providers), *books = p.books.lay(d, in.books);
@@ -162,17 +179,10 @@ void checkStep(Dice &d, Places &p, const Input &in, uint64_t outcomes[16]) {
     else if (!p.providers.same(0) || !p.books.same(0) || !p.event.same(0)) what = "a slice that is only read was changed";
     else if (a.count > 63) what = "more than 63 messages";
     else if (a.outcome == 0 && !p.tray.same(a.count * MESSAGE)) what = "the tray was changed behind its messages";
-    std::optional<Table> before = unpackTable(in.table.data(), in.table.size());
-    std::optional<Books> b = unpackBooks(in.providers.data(), in.providers.size(), in.books.data(), in.books.size());
-    bool good = before && sound(*before) && b && sound(*b) && in.R <= 7 && in.tray.size() / MESSAGE >= PLACES;
-    bool formed = readRecord(in.event.data(), in.event.size()).has_value();
+    bool good = soundInput(in), formed = readRecord(in.event.data(), in.event.size()).has_value();
     if (good != (a.outcome != 1)) what = good ? "outcome 1 though everything is sound" : "not outcome 1 though something is unsound";
     else if (good && formed != (a.outcome != 2)) what = formed ? "outcome 2 for a well-formed record" : "not outcome 2 for a malformed record";
-    if (a.outcome == 0) {
-        Bytes after = p.table.now();
-        std::optional<Table> t = unpackTable(after.data(), after.size());
-        if (!t || !sound(*t)) what = "outcome 0 left an unsound table";
-    }
+    if (a.outcome == 0 && !soundAfter(p.table.now())) what = "outcome 0 left an unsound table";
     bool guarded = p.table.guarded();
     guarded = p.providers.guarded() && guarded;
     guarded = p.books.guarded() && guarded;
@@ -182,10 +192,91 @@ void checkStep(Dice &d, Places &p, const Input &in, uint64_t outcomes[16]) {
     if (!what) return;
     fault(what);
     if (faults > 1) return;
-    std::printf("outcome %llu, %llu messages, R %llu\nevent %s\ntable %s\nproviders %s\nbooks %s\ntray %s\n", (unsigned long long)a.outcome,
-                (unsigned long long)a.count, (unsigned long long)in.R, shortHex(in.event).c_str(), shortHex(in.table).c_str(),
-                shortHex(in.providers).c_str(), shortHex(in.books).c_str(), shortHex(in.tray).c_str());
+    std::printf("outcome %llu, %llu messages\n", (unsigned long long)a.outcome, (unsigned long long)a.count);
+    printInput(in);
 }
+
+#ifdef TEST_RUN
+// One to twelve records instead of one, some of them stirred; now and then not whole; an outcome slice of any length; a tray for few of them.
+Bytes makeRun(Dice &d, const Situation &s, Input &in) {
+    for (uint64_t n = d.below(12); n > 0; n--) {
+        Event e = nextEvent(d, s, 85);
+        Bytes record = d.chance(85) ? packEvent(e) : damagedRecord(d, e);
+        record.resize(RECORD);
+        in.event.insert(d.chance(50) ? in.event.begin() : in.event.end(), record.begin(), record.end());
+    }
+    if (d.chance(90)) in.event.resize(in.event.size() / RECORD * RECORD);
+    if (d.chance(50)) in.tray.resize(in.tray.size() + d.below(30 * MESSAGE), uint8_t(d.next()));
+    size_t need = in.event.size() / RECORD * 2;
+    return anyBytes(d, d.chance(60) ? need : d.chance(50) ? need + d.below(40) : d.below(need + 1));
+}
+
+// What may stand in the slices after so many events and messages.
+const char *runFault(Places &p, const Input &in, const lupinenblatt_ran &a, const Bytes &outcomes) {
+    size_t count = in.event.size() / RECORD, places = in.tray.size() / MESSAGE;
+    uint64_t messages = 0;
+    if (a.events > count || a.messages > places) return "run: more events than there are, or more messages than places";
+    for (size_t i = 0; i < a.events; i++) {
+        if (places - messages < PLACES) return "run: an event with fewer than 64 places left";
+        uint8_t outcome = outcomes[2 * i], sent = outcomes[2 * i + 1];
+        bool formed = readRecord(in.event.data() + i * RECORD, RECORD).has_value();
+        if (outcome > 14 || outcome == 1 || sent > 63 || (outcome != 0 && sent != 0)) return "run: an outcome or count that no event has";
+        if (formed != (outcome != 2)) return "run: outcome 2 and the record's form disagree";
+        messages += sent;
+    }
+    if (messages != a.messages) return "run: the counts are not the messages";
+    if (a.events < count && places - messages >= PLACES) return "run: stopped with places left";
+    if (!p.tray.same(a.messages * MESSAGE)) return "run: the tray was changed behind its messages";
+    if (!p.outcomes.same(2 * a.events)) return "run: the outcome slice was changed behind the last event";
+    return soundAfter(p.table.now()) ? nullptr : "run: left an unsound table";
+}
+
+void checkRun(Dice &d, Places &p, const Input &in, const Bytes &blank) {
+    uint8_t *table = p.table.lay(d, in.table), *providers = p.providers.lay(d, in.providers), *books = p.books.lay(d, in.books);
+    uint8_t *events = p.event.lay(d, in.event), *tray = p.tray.lay(d, in.tray), *outcomes = p.outcomes.lay(d, blank);
+    lupinenblatt_ran a = lupinenblatt_run(table, in.table.size(), providers, in.providers.size(), books, in.books.size(), in.R, events,
+                                          in.event.size(), tray, in.tray.size(), outcomes, blank.size());
+    bool good = soundInput(in) && blank.size() >= in.event.size() / RECORD * 2, whole = in.event.size() % RECORD == 0;
+    const char *what = nullptr;
+    if (a.outcome != (!good ? 1u : !whole ? 2u : 0u)) what = "run: outcome";
+    else if (!p.providers.same(0) || !p.books.same(0) || !p.event.same(0)) what = "run: a slice that is only read was changed";
+    else if (a.outcome == 0) what = runFault(p, in, a, p.outcomes.now());
+    else if (a.events != 0 || a.messages != 0) what = "run: a refusal with events or messages";
+    else if (!p.table.same(0) || !p.tray.same(0) || !p.outcomes.same(0)) what = "run: a refusal changed a slice";
+    bool guarded = true;
+    for (Place *place : {&p.table, &p.providers, &p.books, &p.event, &p.tray, &p.outcomes}) guarded = place->guarded() && guarded;
+    if (!guarded) what = "run: a byte outside a slice was changed";
+    if (!what) return;
+    fault(what);
+    if (faults > 1) return;
+    std::printf("outcome %llu, %llu events, %llu messages, outcome slice of %zu bytes\n", (unsigned long long)a.outcome,
+                (unsigned long long)a.events, (unsigned long long)a.messages, blank.size());
+    printInput(in);
+}
+#endif
+
+#ifdef TEST_CHECKS
+// The checks of soundness alone.
+void checkChecks(Dice &d, Places &p, const Input &in) {
+    uint8_t *table = p.table.lay(d, in.table), *providers = p.providers.lay(d, in.providers), *books = p.books.lay(d, in.books);
+    lupinenblatt_answer a = lupinenblatt_table_check(table, in.table.size());
+    uint8_t b = lupinenblatt_books_check(providers, in.providers.size(), books, in.books.size());
+    std::optional<Table> t = unpackTable(in.table.data(), in.table.size());
+    std::optional<Books> list = unpackBooks(in.providers.data(), in.providers.size(), in.books.data(), in.books.size());
+    bool tableSound = t && sound(*t), booksSound = list && sound(*list);
+    const char *what = nullptr;
+    if (a.outcome != !tableSound || a.count != (tableSound ? t->used.size() : 0)) what = "table_check answers wrongly";
+    else if (b != !booksSound) what = "books_check answers wrongly";
+    else if (!p.table.same(0) || !p.providers.same(0) || !p.books.same(0)) what = "a check wrote";
+    bool guarded = p.table.guarded();
+    guarded = p.providers.guarded() && guarded;
+    guarded = p.books.guarded() && guarded;
+    if (!guarded) what = "a check wrote outside a slice";
+    if (!what) return;
+    fault(what);
+    if (faults == 1) printInput(in);
+}
+#endif
 
 // The record's two calls: 0 or 2, nothing written with 2, nothing outside. A guard number stands before and behind the fields.
 void checkRecord(Dice &d, Places &p, const Input &in) {
@@ -238,7 +329,17 @@ int main(int argc, char **argv) {
         static uint64_t made = ~uint64_t(0);
         if (made != input / 40) made = input / 40, s = makeSituation(common, common.below(12));
         Input in = makeInput(own, s);
-        if (own.chance(12)) checkRecord(own, places, in);
+        uint64_t way = own.below(100);
+        if (way < 12) checkRecord(own, places, in);
+#ifdef TEST_CHECKS
+        else if (way < 22) checkChecks(own, places, in);
+#endif
+#ifdef TEST_RUN
+        else if (way < 42) {
+            Bytes blank = makeRun(own, s, in);
+            checkRun(own, places, in, blank);
+        }
+#endif
         else checkStep(own, places, in, outcomes);
     }
     std::printf("outcomes 0 to 14:");

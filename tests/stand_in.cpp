@@ -32,7 +32,47 @@ extern "C" lupinenblatt_answer lupinenblatt_step_default(uint8_t *table, size_t 
     return lupinenblatt_step(table, tableLength, providers, providersLength, books, booksLength, 0, event, eventLength, tray, trayLength);
 }
 
-#ifndef RECORDS_FROM_LIBRARY
+extern "C" lupinenblatt_answer lupinenblatt_table_check(const uint8_t *table, size_t tableLength) {
+    std::optional<Table> t = unpackTable(table, tableLength);
+    lupinenblatt_answer answer = {UNSOUND, 0};
+    if (t && sound(*t)) answer = {DONE, t->used.size()};
+    return answer;
+}
+
+extern "C" uint8_t lupinenblatt_books_check(const uint8_t *providers, size_t providersLength, const uint8_t *books, size_t booksLength) {
+    std::optional<Books> b = unpackBooks(providers, providersLength, books, booksLength);
+    return b && sound(*b) ? DONE : UNSOUND;
+}
+
+extern "C" lupinenblatt_ran lupinenblatt_run(uint8_t *table, size_t tableLength, const uint8_t *providers, size_t providersLength,
+                                             const uint8_t *books, size_t booksLength, uint64_t retries, const uint8_t *events,
+                                             size_t eventsLength, uint8_t *tray, size_t trayLength, uint8_t *outcomes,
+                                             size_t outcomesLength) {
+    lupinenblatt_ran ran = {UNSOUND, 0, 0};
+    std::optional<Table> t = unpackTable(table, tableLength);
+    std::optional<Books> b = unpackBooks(providers, providersLength, books, booksLength);
+    size_t places = trayLength / MESSAGE, count = eventsLength / RECORD;
+    if (!t || !sound(*t) || !b || !sound(*b)) return ran;
+    if (retries > 7) return ran;
+    if (places < PLACES) return ran;
+    if (outcomesLength < 2 * count) return ran;
+    ran.outcome = MALFORMED;
+    if (eventsLength % RECORD != 0) return ran;
+    ran.outcome = DONE;
+    while (ran.events < count && places - ran.messages >= PLACES) {
+        Result r = step(t, b, retries, unpackEvent(events + ran.events * RECORD, RECORD), PLACES);
+        packTray(r.messages, tray + ran.messages * MESSAGE);
+        outcomes[2 * ran.events] = uint8_t(r.outcome);
+        outcomes[2 * ran.events + 1] = uint8_t(r.messages.size());
+        ran.events++;
+        ran.messages += r.messages.size();
+    }
+    Bytes left;
+    packTable(*t, left);
+    std::copy(left.begin(), left.end(), table);
+    return ran;
+}
+
 extern "C" uint8_t lupinenblatt_record_read(const uint8_t *bytes, size_t length, uint64_t *fields, size_t places) {
     std::optional<Fields> f = readRecord(bytes, length);
     if (!f || places != f->size()) return MALFORMED;
@@ -47,4 +87,3 @@ extern "C" uint8_t lupinenblatt_record_write(uint64_t kind, uint64_t sender, uin
     std::copy(bytes->begin(), bytes->end(), out);
     return DONE;
 }
-#endif

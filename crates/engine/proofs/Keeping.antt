@@ -4,7 +4,7 @@ use mathlib.Core.Path.{_≡_, refl, sym, ap, _∙_, subst}
 use Prim.Native.Nat.{ℕ, _≤_}
 use native.Mathlib.Omega.{arith}
 use mathlib.Core.Bool.{Bool, true, false, cond}
-use mathlib.Core.List.{List, [], map}
+use mathlib.Core.List.{List, []}
 use lib.ListN.{length}
 use Rattle.model.specs.Outcomes.{isDone}
 use Rattle.model.specs.Sound.{soundTable}
@@ -21,13 +21,20 @@ use Rattle.model.specs.declared.Outcome.the-variants as outcome
 use Rattle.model.specs.declared.Reading.{Reading}
 use Rattle.model.specs.declared.Reading.the-variants.{Record, Malformed}
 use Rattle.record.specs.Layout.{readEvent}
-use Rattle.providers.specs.Providers.{listed, entryOf}
+use Rattle.providers.specs.declared.Listed.{Listed}
 use Rattle.table.specs.Table.{decode, encode}
-use Rattle.table.specs.Sound.{rowsIn, soundnessOf}
+use Rattle.table.specs.Sound.{rowsIn, itself, soundnessOf, SoundTable}
 use Rattle.table.specs.declared.scan.Soundness.the-variants.{Sound}
 use Rattle.table.proofs.Meant.{says-sound}
+use Rattle.table.proofs.Steps.{says-again, rows-again, sound-again}
 use Rattle.engine.specs.Event.{tableAfter}
-use Rattle.engine.specs.Step.{settingOf, formed, resultIn, resultOf}
+use Rattle.engine.specs.Step.{settingOf, formed, resultIn}
+
+-- u is a sound table, as its scan says, and has as many rows as t
+pub record Again (t u : List ℕ) : Type 0 where
+  pub table : SoundTable u (length (decode u))
+  pub scanned : soundnessOf u ≡ Sound (length (decode u))
+  pub rows : rowsIn u ≡ rowsIn t
 
 -- what holds of the result of a step on t
 record Kept (s : Setting) (t : List Version) (x : Result) : Type 0 where
@@ -47,29 +54,51 @@ step-kept s Malformed t = go (unsound s t) refl
     go true q = rw q (refuse-kept s t outcome.Unsound refl)
     go false q = rw q (refuse-kept s t outcome.Malformed refl)
 
-module _ (p b : List ℕ) (most : ℕ) (e t y : List ℕ) where
+module _ (l : Listed) (b : List ℕ) (most : ℕ) (e t y : List ℕ) where
   abbrev S : Setting
-  S = settingOf (listed (map entryOf p) .marks) b most t y
+  S = settingOf (l .marks) b most t y
 
-  kept : Kept S (decode t) (resultOf p b most e t y)
+  abbrev X : Result
+  X = resultIn l b most e t y
+
+  kept : Kept S (decode t) X
   unfolding resultIn
-  kept = go (formed (listed (map entryOf p)) b t) refl
+  kept = go (formed l b t) refl
     where
-      go : (f : Bool) → formed (listed (map entryOf p)) b t ≡ f → Kept S (decode t) (resultOf p b most e t y)
+      go : (f : Bool) → formed l b t ≡ f → Kept S (decode t) X
       go true q = rw q (step-kept S (readEvent e) (decode t))
       go false q = rw q (refuse-kept S (decode t) outcome.Unsound refl)
 
-  pub refused-silent : isDone (resultOf p b most e t y .out) ≡ false → resultOf p b most e t y .sent ≡ []
+  pub refused-silent : isDone (X .out) ≡ false → X .sent ≡ []
   refused-silent = kept .silent
 
-  pub result-few : length (resultOf p b most e t y .sent) ≤ 63
+  pub result-few : length (X .sent) ≤ 63
   result-few = kept .few
 
   -- the number of versions after it
   abbrev pub usedAfter : ℕ
-  usedAfter = length (changes (resultOf p b most e t y .does) (decode t))
+  usedAfter = length (changes (X .does) (decode t))
 
-  pub done-scanned : isDone (resultOf p b most e t y .out) ≡ true → soundnessOf (tableAfter (resultOf p b most e t y) t) ≡ Sound usedAfter
+  pub done-scanned : isDone (X .out) ≡ true → soundnessOf (tableAfter X t) ≡ Sound usedAfter
   done-scanned h =
-      ap (λ (d : Bool). soundnessOf (cond d (encode (changes (resultOf p b most e t y .does) (decode t)) (rowsIn t)) t)) h
-      ∙ says-sound (changes (resultOf p b most e t y .does) (decode t)) (rowsIn t) (kept .sound h)
+      ap (λ (d : Bool). soundnessOf (cond d (encode (changes (X .does) (decode t)) (rowsIn t)) t)) h
+      ∙ says-sound (changes (X .does) (decode t)) (rowsIn t) (kept .sound h)
+
+  -- On a sound table a step leaves a sound table of as many rows, whatever its outcome.
+  pub again : (n : ℕ) → SoundTable t n → soundnessOf t ≡ Sound n → Again t (tableAfter X t)
+  again n s q = go (isDone (X .out)) refl
+    where
+      go : (d : Bool) → isDone (X .out) ≡ d → Again t (tableAfter X t)
+      go true h =
+          let vs : List Version = changes (X .does) (decode t) in
+          let k : soundTable itself (rowsIn t) vs ≡ true = kept .sound h in
+          let c : length (decode (encode vs (rowsIn t))) ≡ length vs = ap length (says-again vs (rowsIn t) k) in
+          rw h
+          (record {
+            table = subst (λ (m : ℕ). SoundTable (encode vs (rowsIn t)) m) (sym c) (sound-again vs (rowsIn t) k);
+            scanned = says-sound vs (rowsIn t) k ∙ ap Sound (sym c);
+            rows = rows-again vs (rowsIn t) k;
+          })
+      go false h =
+          rw h
+          (record { table = subst (λ (m : ℕ). SoundTable t m) (sym (s .count)) s; scanned = q ∙ ap Sound (sym (s .count)); rows = refl })

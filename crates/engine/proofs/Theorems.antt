@@ -3,11 +3,12 @@
 use mathlib.Core.Path.{_≡_, refl, sym, ap, _∙_, subst}
 use Prim.Native.Nat.{ℕ, _≤_}
 use mathlib.Core.Bool.{true, false}
-use mathlib.Core.List.{List, []}
+use mathlib.Core.List.{List, [], map}
 use lib.ListN.{length}
 use Rattle.model.specs.Given.{Result}
 use Rattle.model.specs.Outcomes.{isDone}
 use Rattle.model.specs.declared.Message.{Message}
+use Rattle.providers.specs.Providers.{listed, entryOf}
 use Rattle.table.specs.Sound.{soundnessOf}
 use Rattle.table.specs.declared.scan.Soundness.the-variants.{Sound}
 use Rattle.tray.specs.Tray.{putAll}
@@ -31,16 +32,16 @@ module _ (p b : List ℕ) (most : ℕ) (e t y u z : List ℕ) (a : Answer) (d : 
   unfolding putAll
   refusal-keeps h =
       let r : isDone (resultOf p b most e t y .out) ≡ false = other-refused (resultOf p b most e t y .out) (λ q. h (d .outcome ∙ q)) in
-      let n : resultOf p b most e t y .sent ≡ [] = refused-silent p b most e t y r in
+      let n : resultOf p b most e t y .sent ≡ [] = refused-silent (listed (map entryOf p)) b most e t y r in
       (d .table ∙ rw r, d .tray ∙ ap (putAll y 0) n, d .count ∙ ap length n)
 
   -- Every outcome 0 leaves a table that the soundness check accepts. [V12]
-  pub done-accepted : a .outcome ≡ 0 → soundnessOf u ≡ Sound (usedAfter p b most e t y)
-  done-accepted h = ap soundnessOf (d .table) ∙ done-scanned p b most e t y (ap isDone (zero-done (resultOf p b most e t y .out) (sym (d .outcome) ∙ h)))
+  pub done-accepted : a .outcome ≡ 0 → soundnessOf u ≡ Sound (usedAfter (listed (map entryOf p)) b most e t y)
+  done-accepted h = ap soundnessOf (d .table) ∙ done-scanned (listed (map entryOf p)) b most e t y (ap isDone (zero-done (resultOf p b most e t y .out) (sym (d .outcome) ∙ h)))
 
   -- At most 63 messages.
   pub few-messages : a .count ≤ 63
-  few-messages = subst (λ (n : ℕ). n ≤ 63) (sym (d .count)) (result-few p b most e t y)
+  few-messages = subst (λ (n : ℕ). n ≤ 63) (sym (d .count)) (result-few (listed (map entryOf p)) b most e t y)
 
 -- Demand 3, over bytes: see specs/Demands.antt. [H4]
 pub demand3-bytes : ByteDemand3

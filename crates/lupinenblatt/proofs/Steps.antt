@@ -17,6 +17,7 @@ use Rattle.books.specs.Packed.{decodeBooks, soundBytes}
 use Rattle.table.specs.Table.{decode}
 use Rattle.table.specs.Sound.{rowsIn}
 use Rattle.engine.specs.Step.{settingOf, formed, resultIn, resultOf}
+use Rattle.batch.specs.Batch.{refusal}
 use Rattle.lupinenblatt.specs.Checks.{checkedBooks}
 
 -- R above 7 is refused, whatever else was lent.
@@ -34,6 +35,15 @@ wide-retries p b most e t y h =
     go true q false r k s = rw (q, r)
     go true q true r false s = rw (q, r, s)
     go true q true r true s = rw (q, r, s, h)
+
+-- A run too.
+pub wide-run : (l : Listed) (b : List ℕ) (most : ℕ) (es t y o : List ℕ) → leb most 7 ≡ false → refusal l b most es t y o ≡ 1
+unfolding refusal
+wide-run l b most es t y o h = go (formed l b t) refl
+  where
+    go : (f : Bool) → formed l b t ≡ f → refusal l b most es t y o ≡ 1
+    go true q = rw (q, h)
+    go false q = rw q
 
 -- the provider list that was read, and what the books' check said of it
 pub checks : (p b : List ℕ) (l : Listed) (k : Bool) (n : ℕ) → l ≡ listed (map entryOf p) → k ≡ soundBytes (l .marks) b → n ≡ cond (l .sound && k) 0 1 → n ≡ checkedBooks p b

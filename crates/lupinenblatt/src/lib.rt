@@ -9,6 +9,7 @@ use model::Lrn;
 use model::Reading;
 use model::Tn;
 
+pub mod run;
 pub mod step;
 
 // The ten fields in the paper's order, to ten places.

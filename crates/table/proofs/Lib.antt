@@ -18,4 +18,5 @@ pub mod Changed
 pub mod Told
 pub mod Steps
 pub mod Asked
+pub mod Using
 pub mod OneAnswer

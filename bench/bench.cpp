@@ -1,0 +1,532 @@
+// The library beside the hand-written calls of hand.c and a plain pass over the table's bytes: ratios of times, all from one run.
+//
+//     bench [rounds]
+//
+// The three take turns (library, hand, pass, library, ..) on the same memory, which is put back to the same bytes before each turn; of each
+// the shortest time counts. All rows are measured in rounds, default 5, so that no row depends on one moment. Before anything is timed, both
+// calls must give the same answer, table and tray. README.md says what the rows are.
+#include <chrono>
+#include <cmath>
+#include <cstring>
+#include <functional>
+#include <memory>
+#include <string>
+
+#include "generate.hpp"
+#include "hand.h"
+#include "plain.h"
+
+using namespace paper;
+
+namespace {
+
+const std::vector<size_t> SIZES = {64, 512, 4096};
+volatile uint64_t sink;  // what is computed is wanted
+std::vector<std::string> differing;
+
+double now() {
+    return std::chrono::duration<double, std::nano>(std::chrono::steady_clock::now().time_since_epoch()).count();
+}
+
+double emptyTime() {
+    double least = 1e9;
+    for (int i = 0; i < 2000; i++) {
+        double a = now(), b = now();
+        least = std::min(least, b - a);
+    }
+    return least;
+}
+
+using Work = std::function<void()>;
+
+// A call that leaves everything as it was, often enough that the clock's own error does not matter.
+Work often(size_t times, const Work &work) {
+    return [=] {
+        for (size_t i = 0; i < times; i++) work();
+    };
+}
+
+// Some works to be timed in turns, each after `before`; of each the shortest time so far, the clock's own taken off.
+struct Measure {
+    size_t repetitions;
+    Work before;
+    std::vector<Work> works;
+    std::vector<double> least;
+    void round() {
+        static const double clock = emptyTime();
+        for (size_t i = 0; i < repetitions; i++)
+            for (size_t k = 0; k < works.size(); k++) {
+                before();
+                double a = now();
+                works[k]();
+                double b = now();
+                least[k] = std::min(least[k], std::max(b - a - clock, 0.1));
+            }
+    }
+    double ratio(size_t one, size_t other) const { return least[one] / least[other]; }
+};
+using Measured = std::shared_ptr<Measure>;
+
+// Everything is planned first, then measured in rounds, so that each row has its turn at several moments, and printed last.
+std::vector<Measured> measures;
+std::vector<Work> lines;
+
+Measured plan(size_t repetitions, const Work &before, const std::vector<Work> &works) {
+    measures.push_back(std::make_shared<Measure>(Measure{repetitions, before, works, std::vector<double>(works.size(), 1e18)}));
+    return measures.back();
+}
+
+size_t repetitionsFor(size_t rows) { return rows <= 64 ? 500 : rows <= 512 ? 300 : 100; }
+
+// ---- Situations ----
+
+// Books with so many entries; the first code of the list is `home`, and every second provider has a filter on it where there are filters.
+struct Lists { size_t providers, codes, filters, splits; bool homeSplit; };
+const Lists STEP_LISTS = {20, 256, 64, 8, false};
+
+void makeBooks(Dice &d, Situation &s, const Lists &l, std::vector<Code> &codes) {
+    s.books = Books(), s.present.clear(), s.systems.clear();
+    s.books.providers.resize(63);
+    for (Provider p = 1; p <= l.providers; p++) {
+        s.books.providers[p - 1] = {true, true};
+        s.present.push_back(p), s.systems.push_back(p);
+    }
+    std::map<Code, Provider> listed;
+    while (listed.size() < l.codes) listed[anyCode(d)] = d.pick(s.present);
+    for (const auto &[code, owner] : listed) s.books.codes.push_back({code, owner}), codes.push_back(code);
+    std::set<Code> paired;
+    auto fresh = [&] {
+        Code c = anyCode(d);
+        while (listed.count(c) || paired.count(c)) c = anyCode(d);
+        return c;
+    };
+    Code home = codes[0], partner = 0;
+    if (l.homeSplit) {
+        partner = fresh();
+        paired.insert(partner);
+    }
+    while (s.books.splits.size() + l.homeSplit < l.splits) {
+        Code a = fresh();
+        paired.insert(a);
+        Code b = fresh();
+        paired.insert(b);
+        s.books.splits.push_back({a, b});
+    }
+    if (l.homeSplit) s.books.splits.push_back({home, partner});
+    std::set<std::pair<Provider, Code>> filters;
+    for (Provider p = 2; p <= l.providers && filters.size() + 2 <= l.filters; p += 2) {
+        filters.insert({p, home});
+        if (partner && p % 4 == 0) filters.insert({p, partner});
+    }
+    while (filters.size() < l.filters) filters.insert({d.pick(s.present), fresh()});
+    for (const auto &[p, c] : filters) s.books.filters.push_back({p, c});
+}
+
+// A table of exactly so many used rows: many numbers with up to five versions each, all statuses.
+Situation makeRows(Dice &d, const Lists &l, size_t rows, Time base) {
+    Situation s;
+    std::vector<Code> codes;
+    makeBooks(d, s, l, codes);
+    s.R = 2, s.base = base;
+    std::map<Tn, std::vector<Version>> numbers;
+    size_t count = 0;
+    while (count < rows) {
+        Tn tn{d.pick(codes) * 10000 + d.below(10000)};
+        if (numbers.count(tn)) continue;
+        makeVersionsOf(d, s, tn, numbers[tn]);
+        count += numbers[tn].size();
+    }
+    for (const auto &[tn, versions] : numbers) {
+        s.tns.push_back(tn);
+        for (const Version &v : versions)
+            if (s.table.used.size() < rows) s.table.used.push_back(v);
+    }
+    if (!sound(s.books) || !sound(s.table)) std::puts("bench: an unsound situation was made"), std::exit(2);
+    return s;
+}
+
+// What a call is given, and the bytes to begin from.
+struct Lent {
+    Bytes table, tray, providers, books, events, outcomes;
+    Bytes tableAt, trayAt, outcomesAt;  // where the calls write
+    uint64_t R = 0;
+    Lent(const Situation &s, size_t rows, size_t places, const Bytes &records) {
+        packTable(s.table, table);
+        table.resize(rows * ROW, 0);
+        providers = packProviders(s.books), books = packBooks(s.books), R = s.R, events = records;
+        tray.assign(places * MESSAGE, 0x5a);
+        outcomes.assign(2 * (records.size() / RECORD), 0);
+        restore();
+    }
+    void restore() { tableAt = table, trayAt = tray, outcomesAt = outcomes; }
+    bool same(const Lent &other) const { return tableAt == other.tableAt && trayAt == other.trayAt && outcomesAt == other.outcomesAt; }
+};
+
+lupinenblatt_answer ours(Lent &l, size_t event = 0) {
+    return lupinenblatt_step(l.tableAt.data(), l.tableAt.size(), l.providers.data(), l.providers.size(), l.books.data(), l.books.size(), l.R,
+                             l.events.data() + event * RECORD, RECORD, l.trayAt.data(), l.trayAt.size());
+}
+
+lupinenblatt_answer hand(Lent &l, size_t event = 0) {
+    return hand_step(l.tableAt.data(), l.tableAt.size(), l.providers.data(), l.providers.size(), l.books.data(), l.books.size(), l.R,
+                     l.events.data() + event * RECORD, RECORD, l.trayAt.data(), l.trayAt.size());
+}
+
+// ---- Printing ----
+
+void printHead() {
+    std::printf("\n%-52s", "");
+    for (size_t n : SIZES) std::printf("|%14zu rows   ", n);
+    std::printf("\n%-52s", "");
+    for (size_t i = 0; i < SIZES.size(); i++) std::printf("|     /hand    /pass  ");
+    std::printf("\n");
+}
+
+// Library, hand, pass; no measure where there was nothing to measure.
+void printRow(const std::string &name, const std::vector<Measured> &cells) {
+    std::printf("%-52s", name.c_str());
+    for (const Measured &m : cells)
+        if (!m) std::printf("|%10s%9s  ", "-", "-");
+        else if (m->works.size() < 3) std::printf("|%10.2f", m->ratio(0, 1));
+        else std::printf("|%10.2f%9.2f  ", m->ratio(0, 1), m->ratio(0, 2));
+    std::printf("\n");
+}
+
+void addRow(const std::string &name, const std::vector<Measured> &cells) {
+    lines.push_back([=] { printRow(name, cells); });
+}
+
+void mustAgree(bool agree, const std::string &what) {
+    if (!agree) differing.push_back(what);
+}
+
+// ---- Soundness ----
+
+// All rows of a table used, the same with a spare bit in the last row, and all rows free.
+void soundness(const std::vector<Situation> &situations) {
+    const std::vector<std::string> names = {"soundness: all rows used", "soundness: unsound in the last row", "soundness: all rows free"};
+    for (size_t way = 0; way < names.size(); way++) {
+        std::vector<Measured> cells;
+        for (size_t i = 0; i < SIZES.size(); i++) {
+            Situation s = situations[i];
+            if (way == 2) s.table.used.clear();
+            auto l = std::make_shared<Lent>(s, SIZES[i], 64, Bytes());
+            if (way == 1) l->tableAt[(SIZES[i] - 1) * ROW + 7] |= 1;
+            const uint8_t *t = l->tableAt.data();
+            size_t length = l->tableAt.size(), times = 4096 / SIZES[i];
+            lupinenblatt_answer a = lupinenblatt_table_check(t, length), b = hand_table_check(t, length);
+            mustAgree(a.outcome == b.outcome && a.count == b.count, names[way]);
+            cells.push_back(plan(100, [l] {}, {often(times, [=] { sink = lupinenblatt_table_check(t, length).count; }),
+                                               often(times, [=] { sink = hand_table_check(t, length).count; }),
+                                               often(times, [=] { sink = plain_pass(t, length); })}));
+        }
+        addRow(names[way], cells);
+    }
+}
+
+void booksRow(const char *name, const Lists &lists) {
+    Dice d(5);
+    auto l = std::make_shared<Lent>(makeRows(d, lists, 64, 1000), 64, 64, Bytes());
+    const uint8_t *p = l->providers.data(), *b = l->books.data();
+    mustAgree(lupinenblatt_books_check(p, 63, b, BOOKS) == hand_books_check(p, 63, b, BOOKS), name);
+    addRow(name, {plan(100, [l] {}, {often(10, [=] { sink = lupinenblatt_books_check(p, 63, b, BOOKS); }),
+                                     often(10, [=] { sink = hand_books_check(p, 63, b, BOOKS); }), often(10, [=] { sink = plain_pass(b, BOOKS); })})});
+}
+
+// ---- Records ----
+
+void records() {
+    Dice d(23);
+    Situation s = makeRows(d, STEP_LISTS, 64, 1000);
+    auto events = std::make_shared<std::vector<Event>>();
+    auto bytes = std::make_shared<Bytes>();
+    for (int i = 0; i < 1000; i++) {
+        events->push_back(nextEvent(d, s, 60));
+        Bytes record = packEvent(events->back());
+        bytes->insert(bytes->end(), record.begin(), record.end());
+    }
+    auto readAll = [=](auto read) {
+        return [=] {
+            uint64_t fields[10];
+            for (size_t i = 0; i < events->size(); i++) sink = read(bytes->data() + i * RECORD, RECORD, fields, 10);
+        };
+    };
+    auto writeAll = [=](auto write) {
+        return [=] {
+            uint8_t out[RECORD];
+            for (const Event &e : *events)
+                sink = write(e.kind, e.sender, e.other, e.mark, e.cause, e.tn.digits, e.lrn.digits, e.version, e.time, e.due, out, RECORD);
+        };
+    };
+    addRow("record read", {plan(100, [] {}, {readAll(lupinenblatt_record_read), readAll(hand_record_read)})});
+    addRow("record write", {plan(100, [] {}, {writeAll(lupinenblatt_record_write), writeAll(hand_record_write)})});
+}
+
+// ---- Single steps ----
+
+struct Wanted { const char *name; uint64_t kind, outcome; bool fresh; };
+
+// Kind 0: any kind. Fresh: a create with a new row.
+const std::vector<Wanted> STEPS = {
+    {"0 done: 1 new side creates, rows move", 1, DONE, true},
+    {"0 done: 2 old side creates, rows move", 2, DONE, true},
+    {"0 done: 1 new side concurs", 1, DONE, false},
+    {"0 done: 2 old side concurs", 2, DONE, false},
+    {"0 done: 3 new side modifies", 3, DONE, false},
+    {"0 done: 4 old side modifies", 4, DONE, false},
+    {"0 done: 5 activate", 5, DONE, false},
+    {"0 done: 6 cancel", 6, DONE, false},
+    {"0 done: 7 acknowledge cancel", 7, DONE, false},
+    {"0 done: 8 resolve conflict", 8, DONE, false},
+    {"0 done: 9 modify active", 9, DONE, false},
+    {"0 done: 10 disconnect", 10, DONE, false},
+    {"0 done: 11 reply", 11, DONE, false},
+    {"0 done: 12 silence", 12, DONE, false},
+    {"0 done: 13 window ran out", 13, DONE, false},
+    {"0 done: 14 resend", 14, DONE, false},
+    {"0 done: 15 purge, rows move", 15, DONE, false},
+    {"2 malformed", 0, MALFORMED, false},
+    {"3 not present", 0, ABSENT, false},
+    {"4 code not listed", 0, UNLISTED, false},
+    {"5 version not in the table", 0, UNKNOWN, false},
+    {"6 no standing", 0, STANDLESS, false},
+    {"7 status", 0, MISPLACED, false},
+    {"8 too early", 0, EARLY, false},
+    {"9 does not fit", 0, UNFIT, false},
+    {"10 busy", 0, BUSY, false},
+    {"11 not awaited", 0, UNAWAITED, false},
+    {"12 not the current provider", 0, NOT_CURRENT, false},
+    {"13 no free row", 0, FULL, false},
+    {"14 65,535 is used", 0, EXHAUSTED, false},
+};
+
+// An event of this kind and outcome for the table, nothing where chance finds none.
+std::optional<Event> findEvent(Dice &d, const Situation &s, const Wanted &w) {
+    if (w.outcome == MALFORMED) {
+        Event e = nextEvent(d, s, 100);
+        e.time = 0;
+        return e;
+    }
+    for (int i = 0; i < 4000; i++) {
+        Event e = nextEvent(d, s, w.outcome == DONE ? 95 : 30);
+        if (w.outcome == UNLISTED) e = aCreate(d, s, Tn{anyTenDigits(d)});
+        if ((w.kind != 0 && e.kind != w.kind) || outcomeOf(s.table, s.books, e) != w.outcome) continue;
+        if (w.outcome == DONE && e.kind <= 2 && (workedVersion(s.table, e.tn) == nullptr) != w.fresh) continue;
+        return e;
+    }
+    return std::nullopt;
+}
+
+Measured planStep(const std::shared_ptr<Lent> &l, size_t rows, uint64_t outcome, const std::string &name) {
+    Lent other = *l;
+    lupinenblatt_answer a = ours(*l), b = hand(other);
+    mustAgree(a.outcome == outcome && a.outcome == b.outcome && a.count == b.count && l->same(other), name);
+    return plan(repetitionsFor(rows), [=] { l->restore(); }, {[=] { sink = ours(*l).outcome; }, [=] { sink = hand(*l).outcome; },
+                [=] { sink = plain_pass(l->tableAt.data(), l->tableAt.size()); }});
+}
+
+std::vector<Measured> stepRow(Dice &d, const Wanted &w, const std::vector<Situation> &situations) {
+    std::vector<Measured> cells;
+    for (size_t i = 0; i < SIZES.size(); i++) {
+        Situation s;
+        std::optional<Event> e;
+        for (int tries = 0; tries < 20 && !e; tries++) {
+            s = tries == 0 ? situations[i] : makeRows(d, STEP_LISTS, SIZES[i], 1000);
+            s.table.freeRows = 0;
+            if (w.fresh) s.table.used.pop_back(), s.table.freeRows = 1;
+            e = findEvent(d, s, w);
+        }
+        cells.push_back(e ? planStep(std::make_shared<Lent>(s, SIZES[i], 64, packEvent(*e)), SIZES[i], w.outcome, w.name) : nullptr);
+    }
+    addRow(std::string("step, ") + w.name, cells);
+    return cells;
+}
+
+// The geometric mean and the largest of the ratios to hand, for each size.
+void meanRow(const char *name, const std::vector<std::vector<Measured>> &rows) {
+    std::printf("%-52s", name);
+    std::vector<double> largest(SIZES.size());
+    for (size_t i = 0; i < SIZES.size(); i++) {
+        double logs = 0, count = 0;
+        for (const auto &cells : rows)
+            if (cells[i]) logs += std::log(cells[i]->ratio(0, 1)), count++, largest[i] = std::max(largest[i], cells[i]->ratio(0, 1));
+        std::printf("|%10.2f           ", std::exp(logs / std::max(count, 1.0)));
+    }
+    std::printf("\n%-52s", "  largest");
+    for (double l : largest) std::printf("|%10.2f           ", l);
+    std::printf("\n");
+}
+
+void steps(const std::vector<Situation> &situations) {
+    Dice d(7);
+    std::vector<std::vector<Measured>> done, refused;
+    for (const Wanted &w : STEPS) (w.outcome == DONE ? done : refused).push_back(stepRow(d, w, situations));
+    lines.push_back([=] {
+        meanRow("step, all done, geometric mean", done);
+        meanRow("step, all refused, geometric mean", refused);
+    });
+}
+
+// ---- Selection ----
+
+// So many numbers with one version each that its new side may activate, all of the first code.
+Situation toActivate(const Lists &l, size_t numbers) {
+    Dice d(11);
+    Situation s;
+    std::vector<Code> codes;
+    makeBooks(d, s, l, codes);
+    for (size_t i = 0; i < numbers; i++) {
+        Version v;
+        v.tn = Tn{codes[0] * 10000 + i}, v.number = 1, v.newProvider = 2, v.oldProvider = 1, v.lrn.digits = anyTenDigits(d);
+        v.newCreated = v.oldCreated = true, v.newDue = v.oldDue = 50, v.authorization = YES, v.stamp = 40;
+        s.table.used.push_back(v);
+    }
+    return s;
+}
+
+Bytes activations(const Situation &s) {
+    Bytes out;
+    for (const Version &v : s.table.used) {
+        Event e = plain(ACTIVATES, v, v.newProvider);
+        e.time = 60;
+        Bytes record = packEvent(e);
+        out.insert(out.end(), record.begin(), record.end());
+    }
+    return out;
+}
+
+const std::vector<std::pair<const char *, Lists>> SELECTIONS = {
+    {"0 filters", {63, 256, 0, 8, false}},
+    {"64 filters", {63, 256, 64, 8, false}},
+    {"1,024 filters", {63, 256, 1024, 8, false}},
+    {"1,024 filters, the code in a pair", {63, 256, 1024, 64, true}},
+};
+
+void selections() {
+    for (const auto &[name, lists] : SELECTIONS) {
+        Situation s = toActivate(lists, 64);
+        addRow(std::string("step, activate, ") + name, {planStep(std::make_shared<Lent>(s, 64, 64, activations(s)), 64, DONE, name)});
+    }
+}
+
+// ---- Many events in one call ----
+
+#ifdef TEST_RUN
+uint64_t ourRun(Lent &l) {
+    return lupinenblatt_run(l.tableAt.data(), l.tableAt.size(), l.providers.data(), l.providers.size(), l.books.data(), l.books.size(), l.R,
+                            l.events.data(), l.events.size(), l.trayAt.data(), l.trayAt.size(), l.outcomesAt.data(), l.outcomesAt.size()).events;
+}
+
+uint64_t handRun(Lent &l) {
+    return hand_run(l.tableAt.data(), l.tableAt.size(), l.providers.data(), l.providers.size(), l.books.data(), l.books.size(), l.R,
+                    l.events.data(), l.events.size(), l.trayAt.data(), l.trayAt.size(), l.outcomesAt.data(), l.outcomesAt.size()).events;
+}
+
+// Events one after the other, as the generator finds them for the table that the last one left.
+Bytes mixedEvents(Dice &d, Situation s, size_t count, size_t freeRows) {
+    Bytes out;
+    s.table.freeRows = freeRows;
+    for (size_t i = 0; i < count; i++) {
+        Event e = nextEvent(d, s, 80);
+        if (outcomeOf(s.table, s.books, e) == DONE) done(s.table, s.books, s.R, e);
+        Bytes record = packEvent(e);
+        out.insert(out.end(), record.begin(), record.end());
+    }
+    return out;
+}
+
+// Modifications by either side, each done, none of which moves a row; the time stays the same.
+Bytes stillEvents(Dice &d, const Situation &s, size_t count) {
+    std::vector<const Version *> worked;
+    for (const Version &v : s.table.used)
+        if (v.status == PENDING || v.status == CONFLICT) worked.push_back(&v);
+    Bytes out;
+    for (size_t i = 0; i < count; i++) {
+        const Version &v = *d.pick(worked);
+        Event e = filled(d, s, plain(v.newCreated ? NEW_MODIFIES : OLD_MODIFIES, v, v.newCreated ? v.newProvider : v.oldProvider), 0);
+        e.time = LAST_TIME;
+        Bytes record = packEvent(e);
+        out.insert(out.end(), record.begin(), record.end());
+    }
+    return out;
+}
+
+// Ours, by hand, and the first 200 of the events by single steps of ours.
+struct Run {
+    Measured times;
+    double events, stepped;
+    double oursToHand() const { return times->ratio(0, 1); }
+    double stepToRun() const { return times->ratio(2, 0) * events / stepped; }
+    double each(size_t work) const { return times->least[work] / events; }
+};
+
+Run planRun(const std::string &name, const Situation &s, size_t rows, const Bytes &events, size_t repetitions) {
+    size_t count = events.size() / RECORD, stepped = std::min<size_t>(count, 200);
+    auto l = std::make_shared<Lent>(s, rows, 64 + 63 * std::min<size_t>(count, 64) + 4 * count, events);
+    Lent other = *l;
+    mustAgree(ourRun(*l) == count && handRun(other) == count && l->same(other), name);
+    Measured m = plan(repetitions, [=] { l->restore(); }, {[=] { sink = ourRun(*l); }, [=] { sink = handRun(*l); }, [=] {
+        for (size_t i = 0; i < stepped; i++) sink = ours(*l, i).count;
+    }});
+    return {m, double(count), double(stepped)};
+}
+
+void printRuns(const std::string &name, const std::vector<Run> &runs, double (Run::*ratio)() const) {
+    std::printf("%-70s", name.c_str());
+    for (const Run &r : runs) std::printf("|%12.2f     ", (r.*ratio)());
+    std::printf("\n");
+}
+
+void runs(const std::vector<Situation> &situations) {
+    Dice d(17);
+    std::vector<Run> still, mixed;
+    for (size_t i = 0; i < SIZES.size(); i++) {
+        size_t free = std::min<size_t>(300, 4096 - SIZES[i]);
+        still.push_back(planRun("run, modifications", situations[i], SIZES[i], stillEvents(d, situations[i], 20000), 4));
+        mixed.push_back(planRun("run, all kinds", situations[i], SIZES[i] + free, mixedEvents(d, situations[i], 1500, free), 8));
+    }
+    lines.push_back([=] {
+        std::printf("\n%-70s", "many events in one call, time for each event");
+        for (size_t n : SIZES) std::printf("|%10zu rows  ", n);
+        std::printf("\n");
+        printRuns("run, 20,000 modifications that move no row: ours / hand", still, &Run::oursToHand);
+        printRuns("run, 1,500 events of all kinds, rows move: ours / hand", mixed, &Run::oursToHand);
+        printRuns("ours: single step / run, the modifications", still, &Run::stepToRun);
+        printRuns("ours: single step / run, all kinds", mixed, &Run::stepToRun);
+        std::printf("%-70s|%12.2f\n", "ours: run at 4,096 rows / run at 64 rows, the modifications", still[2].each(0) / still[0].each(0));
+        std::printf("%-70s|%12.2f\n", "hand: run at 4,096 rows / run at 64 rows, the modifications", still[2].each(1) / still[0].each(1));
+    });
+    for (const auto &[name, lists] : SELECTIONS) {
+        Situation s = toActivate(lists, 64);
+        Run r = planRun(name, s, 64, activations(s), 80);
+        std::string title = std::string("run, 64 activations, ") + name + ": ours / hand";
+        lines.push_back([=] { printRuns(title, {r}, &Run::oursToHand); });
+    }
+}
+#endif
+
+}  // namespace
+
+int main(int argc, char **argv) {
+    size_t rounds = argc > 1 ? std::strtoull(argv[1], nullptr, 10) : 5;
+    Dice d(3);
+    std::vector<Situation> situations;
+    for (size_t n : SIZES) situations.push_back(makeRows(d, STEP_LISTS, n, 1000));
+    soundness(situations);
+    steps(situations);
+    lines.push_back([] { std::printf("\n%-52s|     /hand    /pass\n", "books, selection (at 64 rows), records"); });
+    booksRow("books check, 256 codes, 64 filters, 8 pairs", STEP_LISTS);
+    booksRow("books check, all places used", {63, 1024, 1024, 64, true});
+    selections();
+    records();
+#ifdef TEST_RUN
+    runs(situations);
+#endif
+    for (size_t i = 0; i < rounds; i++)
+        for (const Measured &m : measures) m->round();
+    std::printf("ratios of times: ours / written by hand in C, ours / a plain pass over the table's bytes; below 1 ours is faster\n");
+    printHead();
+    for (const Work &line : lines) line();
+    for (const std::string &what : differing) std::printf("THE TWO DIFFER: %s\n", what.c_str());
+    return differing.empty() ? 0 : 1;
+}

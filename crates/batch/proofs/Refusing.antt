@@ -1,0 +1,74 @@
+-- When a run is refused, and when it is the steps.
+-- Assumes nothing.
+use mathlib.Core.Path.{_≡_, refl, sym, ap, _∙_, subst}
+use Prim.Native.Nat.{ℕ, _*_, _/_, _%_, _≤_, _<_}
+use native.Mathlib.Omega.{arith}
+use mathlib.Core.Bool.{Bool, true, false, cond, _&&_}
+use mathlib.Core.List.{List, map}
+use lib.Dec.{eqb, leb}
+use lib.ListN.{length}
+use borrow.Author.Tests.{eq-eqb, ne-eqb, le-leb, lt-leb}
+use Rattle.model.proofs.Lists.{clash}
+use Rattle.providers.specs.declared.Listed.{Listed}
+use Rattle.books.specs.Packed.{soundBytes}
+use Rattle.table.specs.Sound.{soundnessOf}
+use Rattle.table.specs.declared.scan.Soundness.{Soundness}
+use Rattle.table.specs.declared.scan.Soundness.the-variants.{Unsound, Sound}
+use Rattle.tray.specs.Tray.{placesIn}
+use Rattle.engine.specs.Step.{formed, fitting}
+use Rattle.batch.specs.declared.Ran.{Ran}
+use Rattle.batch.specs.Batch.{RECORD, recordsIn, Stand, steps, begin, refusal, leaves, refusedWith, Went}
+
+module _ (l : Listed) (b : List ℕ) (most : ℕ) (es t y o : List ℕ) where
+  abbrev N : ℕ
+  N = refusal l b most es t y o
+
+  abbrev all : Stand
+  all = steps l b most (recordsIn es) (begin t y o)
+
+  pub went-refused : (k : ℕ) (r : Ran) → r ≡ refusedWith k → N ≡ k → (k ≡ 0 → ⊥) → Went N (leaves l b most es t y o) t y o r
+  unfolding leaves
+  went-refused k r e q z =
+      subst (λ (a : Ran). Went N (leaves l b most es t y o) t y o a) (sym e)
+      (rw (q, ne-eqb k 0 z) (record { said = refl; done = refl; told = refl; left = refl; laid = refl; noted = refl }))
+
+  pub no-table : soundnessOf t ≡ Unsound → N ≡ 1
+  unfolding refusal
+  no-table h = rw h
+
+  module _ (n : ℕ) (h : soundnessOf t ≡ Sound n) where
+    abbrev room : Bool
+    room = leb (2 * (length es / RECORD)) (length o)
+
+    is-fitting : N ≡ cond (fitting l b most (placesIn y) && room) (cond (eqb (length es % RECORD) 0) 0 2) 1
+    unfolding refusal
+    is-fitting = go (l .sound) refl (soundBytes (l .marks) b) refl (leb most 7) refl (leb 64 (placesIn y)) refl
+      where
+        go : (x : Bool) → l .sound ≡ x → (k : Bool) → soundBytes (l .marks) b ≡ k → (r : Bool) → leb most 7 ≡ r → (w : Bool) → leb 64 (placesIn y) ≡ w
+            → N ≡ cond (fitting l b most (placesIn y) && room) (cond (eqb (length es % RECORD) 0) 0 2) 1
+        go false a k c r d w f = rw (h, a)
+        go true a false c r d w f = rw (h, a, c)
+        go true a true c false d w f = rw (h, a, c, d)
+        go true a true c true d false f = rw (h, a, c, d, f)
+        go true a true c true d true f = rw (h, a, c, d, f)
+
+    pub unfit : fitting l b most (placesIn y) ≡ false → N ≡ 1
+    unfit f = is-fitting ∙ rw f
+
+    pub short : fitting l b most (placesIn y) ≡ true → length o < 2 * (length es / RECORD) → N ≡ 1
+    short f s = is-fitting ∙ rw (f, lt-leb (2 * (length es / RECORD)) (length o) s)
+
+    module _ (f : fitting l b most (placesIn y) ≡ true) (s : 2 * (length es / RECORD) ≤ length o) where
+      pub partly : (length es % RECORD ≡ 0 → ⊥) → N ≡ 2
+      partly q = is-fitting ∙ rw (f, le-leb (2 * (length es / RECORD)) (length o) s, ne-eqb (length es % RECORD) 0 q)
+
+      pub wholly : length es % RECORD ≡ 0 → N ≡ 0
+      wholly q = is-fitting ∙ rw (f, le-leb (2 * (length es / RECORD)) (length o) s, eq-eqb (length es % RECORD) 0 q)
+
+  pub went-whole : (t′ y′ o′ : List ℕ) (r : Ran) → N ≡ 0 → Went 0 all t′ y′ o′ r → Went N (leaves l b most es t y o) t′ y′ o′ r
+  unfolding leaves
+  went-whole t′ y′ o′ r q w = rw q w
+
+pub went-is : (l k : Listed) (b : List ℕ) (most : ℕ) (es t y o t′ y′ o′ : List ℕ) (r : Ran) → l ≡ k
+    → Went (refusal l b most es t y o) (leaves l b most es t y o) t′ y′ o′ r → Went (refusal k b most es t y o) (leaves k b most es t y o) t′ y′ o′ r
+went-is l k b most es t y o t′ y′ o′ r q w = subst (λ (x : Listed). Went (refusal x b most es t y o) (leaves x b most es t y o) t′ y′ o′ r) q w

@@ -1,0 +1,92 @@
+-- One event of many: what a step on the tray behind the messages leaves of the whole.
+-- Assumes nothing.
+use mathlib.Core.Path.{_≡_, refl, sym, ap, ap₂, _∙_, subst}
+use Prim.Native.Nat.{ℕ, suc, _+_, _-_, _*_, _≤_, _<_}
+use native.Mathlib.Omega.{arith}
+use mathlib.Core.List.{List, [], _++_, append-nil}
+use lib.ListN.{length, take, drop, set, length-drop}
+use lib.Seq.{take-all, drop-length}
+use borrow.Rule.Slice.PartMut.{putMid, postOf, post-is}
+use Rattle.model.specs.Outcomes.{numberOf}
+use Rattle.model.specs.Given.{Result}
+use Rattle.model.specs.declared.Outcome.{Outcome}
+use Rattle.model.specs.declared.Outcome.the-variants as outcome
+use Rattle.providers.specs.declared.Listed.{Listed}
+use Rattle.table.specs.Table.{decode}
+use Rattle.table.specs.Sound.{SoundTable, soundnessOf, rowsIn}
+use Rattle.table.specs.declared.scan.Soundness.the-variants.{Sound}
+use Rattle.tray.specs.Tray.{placesIn, putAll}
+use Rattle.engine.specs.declared.event.Answer.{Answer}
+use Rattle.engine.specs.Event.{Did, tableAfter}
+use Rattle.engine.specs.Step.{fitting, resultIn}
+use Rattle.engine.proofs.Keeping.{Again, again, result-few}
+use Rattle.batch.specs.Batch.{Stand, after, resultAt, Turned}
+
+-- the part of a list from a place on
+pub part-is : (y : List ℕ) (k : ℕ) → take (length y - k) (drop k y) ≡ drop k y
+part-is y k = take-all (length y - k) (drop k y) (let e : length (drop k y) ≡ length y - k = length-drop k y in omega arith)
+
+pub part-put : (y z : List ℕ) (k : ℕ) → k ≤ length y → putMid k (length y - k) y z ≡ take k y ++ z
+part-put y z k h =
+    ap (λ (r : List ℕ). take k y ++ r)
+    (ap (λ (r : List ℕ). z ++ r) (post-is k (length y) y h ∙ drop-length y) ∙ append-nil z)
+
+pub number-small : (o : Outcome) → numberOf o < 15
+number-small outcome.Done = omega arith
+number-small outcome.Unsound = omega arith
+number-small outcome.Malformed = omega arith
+number-small outcome.Absent = omega arith
+number-small outcome.Unlisted = omega arith
+number-small outcome.Unknown = omega arith
+number-small outcome.Standless = omega arith
+number-small outcome.Misplaced = omega arith
+number-small outcome.Early = omega arith
+number-small outcome.Unfit = omega arith
+number-small outcome.Busy = omega arith
+number-small outcome.Unawaited = omega arith
+number-small outcome.NotCurrent = omega arith
+number-small outcome.Full = omega arith
+number-small outcome.Exhausted = omega arith
+
+module _ (l : Listed) (b : List ℕ) (most : ℕ) (e t y o : List ℕ) (i m : ℕ) (u z : List ℕ) (a : Answer) where
+  abbrev k : ℕ
+  k = 24 * m
+
+  abbrev S : Stand
+  S = record { table = t; tray = y; outs = o; events = i; messages = m }
+
+  abbrev X : Result
+  X = resultAt l b most e S
+
+  module _ (d : Did (resultIn l b most e t (take (length y - k) (drop k y))) t (take (length y - k) (drop k y)) u z a) where
+    did : Did X t (drop k y) u z a
+    did = subst (λ (w : List ℕ). Did (resultIn l b most e t w) t w u z a) (part-is y k) d
+
+    pub said-small : a .outcome < 256
+    said-small = let h : a .outcome ≡ numberOf (X .out) = did .outcome in omega (arith, number-small (X .out))
+
+    pub count-small : a .count ≤ 63
+    count-small = subst (λ (n : ℕ). n ≤ 63) (sym (did .count)) (result-few l b most e t (drop k y))
+
+    module _ (n : ℕ) (st : SoundTable t n) (sc : soundnessOf t ≡ Sound n) where
+      pub stays : Again t u
+      stays = subst (λ (v : List ℕ). Again t v) (sym (did .table)) (again l b most e t (drop k y) n st sc)
+
+      pub turned : (used : ℕ) → used ≡ length (decode u) → k ≤ length y
+          → Turned X S (record { table = u; tray = putMid k (length y - k) y z; outs = set (set o (2 * i) (a .outcome)) (2 * i + 1) (a .count); events = suc i; messages = m + a .count }) used
+      turned used q h = record {
+        is = λ j. record {
+          table = did .table j;
+          tray = (part-put y z k h ∙ ap (λ (r : List ℕ). take k y ++ r) (did .tray)) j;
+          outs = set (set o (2 * i) (did .outcome j)) (2 * i + 1) (did .count j);
+          events = suc i;
+          messages = m + did .count j;
+        };
+        sound = subst (λ (v : ℕ). SoundTable u v) (sym q) (stays .table);
+        scanned = stays .scanned ∙ ap Sound (sym q);
+      }
+
+      pub turned-at : (used : ℕ) → used ≡ length (decode u) → k ≤ length y → (s : Stand) → s ≡ S
+          → Turned (resultAt l b most e s) s (record { table = u; tray = putMid k (length y - k) y z; outs = set (set o (2 * i) (a .outcome)) (2 * i + 1) (a .count); events = suc i; messages = m + a .count }) used
+      turned-at used q h s w =
+          subst (λ (v : Stand). Turned (resultAt l b most e v) v (record { table = u; tray = putMid k (length y - k) y z; outs = set (set o (2 * i) (a .outcome)) (2 * i + 1) (a .count); events = suc i; messages = m + a .count }) used) (sym w) (turned used q h)

@@ -1,0 +1,109 @@
+use denote.Ref.{now}
+use mathlib.Core.Path.{_≡_, sym, ap, _∙_, subst}
+use Prim.Native.Nat.{ℕ, _≤_, _<_, _*_}
+use native.Mathlib.Omega.{arith}
+use mathlib.Core.List.{List}
+use lib.ListN.{length, length-set}
+use Rattle.tray.specs.Tray.{placesIn}
+use Rattle.table.specs.Sound.{rowsIn}
+use Rattle.engine.specs.Step.{fitting}
+use Rattle.batch.proofs.Turns.{part-is, said-small, count-small, stays, turned-at}
+use borrow.Author.Needs.{needs}
+use Rattle.batch.proofs.one.Statement.{statement}
+use Rattle.batch.proofs.one.Tie as tie
+
+mul-at : tie.Need-mul-at
+mul-at c = search needs
+
+sub-on-fitting : tie.Need-sub-on-fitting
+sub-on-fitting c = search needs
+
+part-on-fitting-start : tie.Need-part-on-fitting-start
+part-on-fitting-start c = search needs
+
+part-on-fitting-end : tie.Need-part-on-fitting-end
+part-on-fitting-end c = search needs
+
+on-fitting-requires : tie.Need-on-fitting-requires
+on-fitting-requires c κs =
+    let s = c .before .before .before .before .before .before .before in
+    (s .pre .0, (s .pre .1 .0, ap (λ (w : List ℕ). fitting (s .args .l) (now (s .args .books)) (s .args .most) (placesIn w)) (part-is (now (s .args .tray)) (24 * s .args .messages)) ∙ s .pre .1 .1))
+
+cast-outs : tie.Need-cast-outs
+cast-outs c =
+    let s = c .before .before .before .before .before .before .before .before .before .before .before .before .before in
+    let h = said-small (s .args .l) (now (s .args .books)) (s .args .most) (now (s .args .event)) (now (s .args .table)) (now (s .args .tray)) (now (s .args .outs)) (s .args .i) (s .args .messages) _ _ _ (c .before .before .before .before .before .on-fitting .ensures) in
+    search needs
+
+mul-outs : tie.Need-mul-outs
+mul-outs c = search needs
+
+slice-write-outs : tie.Need-slice-write-outs
+slice-write-outs c = search needs
+
+cast-outs-2 : tie.Need-cast-outs-2
+cast-outs-2 c =
+    let s = c .before .before .before .before .before .before .before .before .before .before .before .before .before .before in
+    let h = count-small (s .args .l) (now (s .args .books)) (s .args .most) (now (s .args .event)) (now (s .args .table)) (now (s .args .tray)) (now (s .args .outs)) (s .args .i) (s .args .messages) _ _ _ (c .before .before .before .before .before .before .on-fitting .ensures) in
+    search needs
+
+mul-outs-2 : tie.Need-mul-outs-2
+mul-outs-2 c = search needs
+
+add-outs : tie.Need-add-outs
+add-outs c = search needs
+
+slice-write-outs-2 : tie.Need-slice-write-outs-2
+slice-write-outs-2 c =
+    let s = c .before .before .before .before .before .before .before .before .before .before .before .before .before .before in
+    simp length-set (omega (arith, s .pre .1 .2))
+
+used-requires : tie.Need-used-requires
+used-requires c κs =
+    let s = c .before .before .before .before .before .before .before .before .before .before .before .before .before .before .before in
+    let h = stays (s .args .l) (now (s .args .books)) (s .args .most) (now (s .args .event)) (now (s .args .table)) (now (s .args .tray)) (now (s .args .outs)) (s .args .i) (s .args .messages) _ _ _ (c .before .before .before .before .before .before .before .on-fitting .ensures) _ (s .pre .0) (s .pre .1 .0) in
+    (h .table, subst (λ (r : ℕ). s .args .n ≤ r) (sym (h .rows)) (s .pre .0 .room))
+
+add-t22 : tie.Need-add-t22
+add-t22 c =
+    let s = c .before .before .before .before .before .before .before .before .before .before .before .before .before .before .before .before in
+    let h = count-small (s .args .l) (now (s .args .books)) (s .args .most) (now (s .args .event)) (now (s .args .table)) (now (s .args .tray)) (now (s .args .outs)) (s .args .i) (s .args .messages) _ _ _ (c .before .before .before .before .before .before .before .before .on-fitting .ensures) in
+    let g = s .pre .1 .3 in
+    search needs
+
+same-length : tie.Need-same-length
+same-length c = search needs
+
+same-length-2 : tie.Need-same-length-2
+same-length-2 c = search needs
+
+same-length-3 : tie.Need-same-length-3
+same-length-3 c = search needs
+
+returns : tie.Need-returns
+returns c =
+    let s = c .before .before .before .before .before .before .before .before .before .before .before .before .before .before .before .before in
+    turned-at (s .args .l) (now (s .args .books)) (s .args .most) (now (s .args .event)) (now (s .args .table)) (now (s .args .tray)) (now (s .args .outs)) (s .args .i) (s .args .messages) _ _ _ (c .before .before .before .before .before .before .before .before .on-fitting .ensures) _ (s .pre .0) (s .pre .1 .0) _ (c .used .ensures) (s .pre .1 .3)
+
+pub one-spec : {M : Type 1} → statement M
+one-spec =
+    tie.close
+    (tie.spec
+    mul-at
+    sub-on-fitting
+    part-on-fitting-start
+    part-on-fitting-end
+    on-fitting-requires
+    cast-outs
+    mul-outs
+    slice-write-outs
+    cast-outs-2
+    mul-outs-2
+    add-outs
+    slice-write-outs-2
+    used-requires
+    add-t22
+    same-length
+    same-length-2
+    same-length-3
+    returns)

@@ -1,0 +1,173 @@
+// Many event records on one table: its soundness is checked once, and each event is then a step.
+use providers::Listed;
+use table::scan::Soundness;
+ghost use mathlib.Core.Path.{_≡_};
+ghost use mathlib.Core.Bool.{true};
+ghost use mathlib.Core.List.{map};
+ghost use Prim.Native.Nat.{_+_, _*_, _/_, _%_, _≤_, suc};
+ghost use lib.ListN.{length, drop};
+ghost use Rattle.providers.specs.Providers.{listed, entryOf};
+ghost use Rattle.table.specs.Sound.{SoundTable, soundnessOf};
+ghost use Rattle.table.specs.declared.scan.Soundness.the-variants.{Sound};
+ghost use Rattle.tray.specs.Tray.{messageSize, placesIn};
+ghost use Rattle.engine.specs.Step.{fitting};
+ghost use Rattle.batch.specs.Batch.{RECORD, recordsIn, Stand, resultAt, steps, begin, refusal, leaves, refusedWith, Went, Turned};
+
+const RECORD: usize = 24;
+
+const MESSAGE: usize = 24;
+
+const PLACES: usize = 64;
+
+// The outcome of the whole, how many events were done, and how many messages stand in the tray.
+#[repr(C)]
+pub struct Ran {
+    pub outcome: u64,
+    pub events: u64,
+    pub messages: u64,
+}
+
+// After an event: the used rows, and the messages so far.
+pub struct Turn {
+    pub used: usize,
+    pub messages: usize,
+}
+
+// One record, the i-th.
+fn one(
+    table: &mut [u8],
+    n: usize,
+    l: Listed,
+    books: &[u8],
+    most: u8,
+    event: &[u8],
+    tray: &mut [u8],
+    messages: usize,
+    outs: &mut [u8],
+    i: usize,
+) -> Turn
+    requires { ⌜ SoundTable (now table) n ⌝ }
+    requires { ⌜ (soundnessOf (now table) ≡ Sound n) × (fitting l (now books) most (placesIn (drop (messageSize * messages) (now tray))) ≡ true) × (2 * i + 2 ≤ length (now outs)) × (messageSize * messages ≤ length (now tray)) ⌝ }
+    ensures { λ r. ⌜ ((s : Stand) → s ≡ record { table = now (table .entry); tray = now (tray .entry); outs = now (outs .entry); events = i; messages = messages } → Turned (resultAt l (now (books .entry)) most (now (event .entry)) s) s (record { table = now (table .exit); tray = now (tray .exit); outs = now (outs .exit); events = suc i; messages = r .messages }) (r .used)) ⌝ }
+{
+    let at = MESSAGE * messages;
+    let a = engine::step::on_fitting(table, n, l, books, most, event, &mut tray[at..]);
+    outs[2 * i] = a.outcome as u8;
+    outs[2 * i + 1] = a.count as u8;
+    let used = table::count::used(table, n);
+    Turn {
+        used,
+        messages: messages + a.count as usize,
+    }
+}
+
+// The records, in order, while 64 places are left.
+fn all(
+    table: &mut [u8],
+    n: usize,
+    l: Listed,
+    books: &[u8],
+    most: u8,
+    events: &[u8],
+    tray: &mut [u8],
+    outs: &mut [u8],
+) -> Ran
+    requires { ⌜ SoundTable (now table) n ⌝ }
+    requires { ⌜ (soundnessOf (now table) ≡ Sound n) × (fitting l (now books) most (placesIn (now tray)) ≡ true) × (2 * (length (now events) / RECORD) ≤ length (now outs)) ⌝ }
+    ensures { λ r. ⌜ Went 0 (steps l (now (books .entry)) most (recordsIn (now (events .entry))) (begin (now (table .entry)) (now (tray .entry)) (now (outs .entry)))) (now (table .exit)) (now (tray .exit)) (now (outs .exit)) r ⌝ }
+{
+    let count = events.len() / RECORD;
+    let mut used = n;
+    let mut messages: usize = 0;
+    let mut i: usize = 0;
+    while i < count {
+        if (tray.len() - MESSAGE * messages) / MESSAGE < PLACES {
+            return Ran {
+                outcome: 0,
+                events: i as u64,
+                messages: messages as u64,
+            };
+        }
+        let from = RECORD * i;
+        let to = from + RECORD;
+        let t = one(
+            table,
+            used,
+            l,
+            books,
+            most,
+            &events[from..to],
+            tray,
+            messages,
+            outs,
+            i,
+        );
+        used = t.used;
+        messages = t.messages;
+        i += 1;
+    }
+    Ran {
+        outcome: 0,
+        events: i as u64,
+        messages: messages as u64,
+    }
+}
+
+fn refused(outcome: u64) -> Ran
+    ensures { λ r. ⌜ r ≡ refusedWith outcome ⌝ }
+{
+    Ran {
+        outcome,
+        events: 0,
+        messages: 0,
+    }
+}
+
+// A run on a sound table.
+fn on_table(
+    table: &mut [u8],
+    n: usize,
+    l: Listed,
+    books: &[u8],
+    most: u8,
+    events: &[u8],
+    tray: &mut [u8],
+    outs: &mut [u8],
+) -> Ran
+    requires { ⌜ SoundTable (now table) n ⌝ }
+    requires { ⌜ soundnessOf (now table) ≡ Sound n ⌝ }
+    ensures { λ r. ⌜ Went (refusal l (now (books .entry)) most (now (events .entry)) (now (table .entry)) (now (tray .entry)) (now (outs .entry))) (leaves l (now (books .entry)) most (now (events .entry)) (now (table .entry)) (now (tray .entry)) (now (outs .entry))) (now (table .exit)) (now (tray .exit)) (now (outs .exit)) r ⌝ }
+{
+    let places = tray::places(tray);
+    let fits = engine::step::fit(l, books, most, places);
+    if !fits {
+        return refused(1);
+    }
+    if outs.len() < 2 * (events.len() / RECORD) {
+        return refused(1);
+    }
+    if events.len() % RECORD != 0 {
+        return refused(2);
+    }
+    all(table, n, l, books, most, events, tray, outs)
+}
+
+// Event records on a table, with the provider list, the books, R, a tray, and two bytes for each event's outcome and count.
+pub fn run(
+    table: &mut [u8],
+    providers: &[u8],
+    books: &[u8],
+    most: u8,
+    events: &[u8],
+    tray: &mut [u8],
+    outs: &mut [u8],
+) -> Ran
+    ensures { λ r. ⌜ Went (refusal (listed (map entryOf (now (providers .entry)))) (now (books .entry)) most (now (events .entry)) (now (table .entry)) (now (tray .entry)) (now (outs .entry))) (leaves (listed (map entryOf (now (providers .entry)))) (now (books .entry)) most (now (events .entry)) (now (table .entry)) (now (tray .entry)) (now (outs .entry))) (now (table .exit)) (now (tray .exit)) (now (outs .exit)) r ⌝ }
+{
+    let l = providers::marks_of_bytes(providers);
+    let verdict = table::scan::verdict(table);
+    match verdict {
+        Soundness::Sound { used } => on_table(table, used, l, books, most, events, tray, outs),
+        Soundness::Unsound => refused(1),
+    }
+}
