@@ -1,5 +1,5 @@
 // Replays a file of event records on a table, with a provider list, books and R, and writes outcomes, messages and the table after them.
-// Thin over the engine: all that decides is `engine::step`.
+// Thin over the engine: all that decides is `batch::run`, which is `engine::step` again and again.
 mod files;
 
 use libc::STDERR_FILENO;
@@ -34,17 +34,20 @@ const RECORD: usize = 24;
 
 const MESSAGE: usize = 24;
 
-const TRAY_PLACES: u64 = 64;
+// So many records are read at once, and so many messages find room.
+const AT_ONCE: u64 = 1024;
+
+const TRAY_PLACES: u64 = 4096;
 // So many events and again so many: a line of progress.
 const PROGRESS: u64 = 10_000;
 
 const MOST_EVENTS: u64 = 18_446_744_073_709_551_615;
-// What a turn says: one event more, the input's end, or a file that cannot be read or written.
-const ON: u8 = 0;
 
-const END: u8 = 1;
-
-const BROKEN: u8 = 2;
+// The place behind the events that were done, from 1; 0 where a file could not be written. And how many bytes of records they were.
+struct Done {
+    place: u64,
+    bytes: usize,
+}
 
 // A digit's number; more than 7 for any other byte.
 fn number(digit: u8) -> u8 {
@@ -125,35 +128,6 @@ fn put_messages(fd: i32, tray: &[u8], count: u64) -> bool {
     io::write_all(fd, &tray[..n])
 }
 
-// One event more, if there is one; a part of a record at the end is an event too.
-fn one(
-    place: u64,
-    events: i32,
-    outcomes: i32,
-    messages: i32,
-    table: &mut [u8],
-    providers: &[u8],
-    books: &[u8],
-    most: u8,
-    tray: &mut [u8],
-) -> u8 {
-    let mut event = [0u8; RECORD];
-    let n = io::read_full(events, &mut event);
-    if n == 0 {
-        return END;
-    }
-    let a = engine::step::step(table, providers, books, most, &event[..n], tray);
-    if !put_line(outcomes, place, a.outcome, a.count) {
-        files::fail(b"OUTCOMES");
-        return BROKEN;
-    }
-    if !put_messages(messages, tray, a.count) {
-        files::fail(b"MESSAGES");
-        return BROKEN;
-    }
-    ON
-}
-
 fn tell(place: u64) {
     if place % PROGRESS == 0 {
         io::print_decimal(STDERR_FILENO, place);
@@ -161,12 +135,192 @@ fn tell(place: u64) {
     }
 }
 
-// The place behind the last event; 0 where not all were replayed.
-fn reached(turn: u8, place: u64, events: i32) -> u64 {
-    if turn == BROKEN {
+fn wide(b: u8) -> u64 {
+    b as u64
+}
+
+// The line of the i-th event of a run: outcome and count stand in two bytes.
+fn put_answer(fd: i32, place: u64, answers: &[u8], i: usize) -> bool {
+    if i >= answers.len() / 2 {
+        return false;
+    }
+    let outcome = wide(answers[2 * i]);
+    let count = wide(answers[2 * i + 1]);
+    put_line(fd, place, outcome, count)
+}
+
+// The lines of a run; the place behind its last event, or 0.
+fn put_answers(fd: i32, first: u64, answers: &[u8], count: usize) -> u64 {
+    let mut place = first;
+    let mut i: usize = 0;
+    while i < count {
+        if place >= MOST_EVENTS {
+            return 0;
+        }
+        if !put_answer(fd, place, answers, i) {
+            files::fail(b"OUTCOMES");
+            return 0;
+        }
+        tell(place);
+        place += 1;
+        i += 1;
+    }
+    place
+}
+
+fn nothing() -> Done {
+    Done { place: 0, bytes: 0 }
+}
+
+// As many of the records as the tray has room for.
+fn some(
+    place: u64,
+    outcomes: i32,
+    messages: i32,
+    table: &mut [u8],
+    providers: &[u8],
+    books: &[u8],
+    most: u8,
+    events: &[u8],
+    tray: &mut [u8],
+    answers: &mut [u8],
+) -> Done {
+    let ran = batch::run(table, providers, books, most, events, tray, answers);
+    if ran.outcome != 0 {
+        files::say(b"refused what was checked");
+        return nothing();
+    }
+    let count = ran.events;
+    if count > AT_ONCE {
+        return nothing();
+    }
+    let behind = put_answers(outcomes, place, answers, count as usize);
+    if behind == 0 {
+        return nothing();
+    }
+    if !put_messages(messages, tray, ran.messages) {
+        files::fail(b"MESSAGES");
+        return nothing();
+    }
+    Done {
+        place: behind,
+        bytes: count as usize * RECORD,
+    }
+}
+
+// Whole records; the place behind them, or 0.
+fn whole(
+    first: u64,
+    outcomes: i32,
+    messages: i32,
+    table: &mut [u8],
+    providers: &[u8],
+    books: &[u8],
+    most: u8,
+    events: &[u8],
+    tray: &mut [u8],
+    answers: &mut [u8],
+) -> u64 {
+    let mut place = first;
+    let mut from: usize = 0;
+    while from < events.len() {
+        let d = some(
+            place,
+            outcomes,
+            messages,
+            table,
+            providers,
+            books,
+            most,
+            &events[from..],
+            tray,
+            answers,
+        );
+        let bytes = d.bytes;
+        if bytes == 0 {
+            return 0;
+        }
+        if bytes > events.len() - from {
+            return 0;
+        }
+        place = d.place;
+        from += bytes;
+    }
+    place
+}
+
+// A part of a record at the end is an event too.
+fn rest(
+    place: u64,
+    outcomes: i32,
+    table: &mut [u8],
+    providers: &[u8],
+    books: &[u8],
+    most: u8,
+    event: &[u8],
+    tray: &mut [u8],
+) -> u64 {
+    if event.len() == 0 {
+        return place;
+    }
+    let a = engine::step::step(table, providers, books, most, event, tray);
+    if !put_line(outcomes, place, a.outcome, a.count) {
+        files::fail(b"OUTCOMES");
         return 0;
     }
-    if files::ended(events, EVENTS, b"grew while it was read") {
+    tell(place);
+    if place >= MOST_EVENTS {
+        return 0;
+    }
+    place + 1
+}
+
+// The next events of the input; the place behind them, which is the same where the input ended, or 0.
+fn next(
+    place: u64,
+    input: i32,
+    outcomes: i32,
+    messages: i32,
+    table: &mut [u8],
+    providers: &[u8],
+    books: &[u8],
+    most: u8,
+    events: &mut [u8],
+    tray: &mut [u8],
+    answers: &mut [u8],
+) -> u64 {
+    let n = io::read_full(input, events);
+    let end = n - n % RECORD;
+    let behind = whole(
+        place,
+        outcomes,
+        messages,
+        table,
+        providers,
+        books,
+        most,
+        &events[..end],
+        tray,
+        answers,
+    );
+    if behind == 0 {
+        return 0;
+    }
+    rest(
+        behind,
+        outcomes,
+        table,
+        providers,
+        books,
+        most,
+        &events[end..n],
+        tray,
+    )
+}
+
+// The place behind the last event; 0 where not all were replayed.
+fn reached(place: u64, input: i32) -> u64 {
+    if files::ended(input, EVENTS, b"grew while it was read") {
         place
     } else {
         0
@@ -175,33 +329,41 @@ fn reached(turn: u8, place: u64, events: i32) -> u64 {
 
 // All events, up to the input's end.
 fn each(
-    events: i32,
+    input: i32,
     outcomes: i32,
     messages: i32,
     table: &mut [u8],
     providers: &[u8],
     books: &[u8],
     most: u8,
+    events: &mut [u8],
     tray: &mut [u8],
+    answers: &mut [u8],
 ) -> u64 {
     let mut place: u64 = 1;
-    while place < MOST_EVENTS {
-        let turn = one(
+    let mut turns = MOST_EVENTS;
+    while turns > 0 {
+        let behind = next(
             place,
-            events,
+            input,
             outcomes,
             messages,
             table,
             providers,
             books,
             most,
+            events,
             tray,
+            answers,
         );
-        if turn != ON {
-            return reached(turn, place, events);
+        if behind == 0 {
+            return 0;
         }
-        tell(place);
-        place += 1;
+        if behind == place {
+            return reached(place, input);
+        }
+        place = behind;
+        turns -= 1;
     }
     0
 }
@@ -221,9 +383,17 @@ fn finish(count: u64, outcomes: i32, messages: i32, table: &[u8]) {
 }
 
 // The events on what was checked. The table after them is written last, so that it stands for all of them or is not there.
-fn replay(table: &mut [u8], providers: &[u8], books: &[u8], most: u8, tray: &mut [u8]) {
-    let events = files::open_input(EVENTS);
-    if events < 0 {
+fn replay(
+    table: &mut [u8],
+    providers: &[u8],
+    books: &[u8],
+    most: u8,
+    events: &mut [u8],
+    tray: &mut [u8],
+    answers: &mut [u8],
+) {
+    let input = files::open_input(EVENTS);
+    if input < 0 {
         return;
     }
     let outcomes = files::open_output(OUTCOMES);
@@ -235,14 +405,16 @@ fn replay(table: &mut [u8], providers: &[u8], books: &[u8], most: u8, tray: &mut
         return;
     }
     let behind = each(
-        events,
+        input,
         outcomes,
         messages,
         table,
         providers,
         books,
         most,
+        events,
         tray,
+        answers,
     );
     if behind == 0 {
         return;
@@ -251,14 +423,22 @@ fn replay(table: &mut [u8], providers: &[u8], books: &[u8], most: u8, tray: &mut
 }
 
 // Checks what is lent to each event, before any file is written.
-fn checked(table: &mut [u8], providers: &[u8], books: &[u8], most: u8, tray: &mut [u8]) {
+fn checked(
+    table: &mut [u8],
+    providers: &[u8],
+    books: &[u8],
+    most: u8,
+    events: &mut [u8],
+    tray: &mut [u8],
+    answers: &mut [u8],
+) {
     if !table_fits(table) {
         return;
     }
     if !books_fit(providers, books) {
         return;
     }
-    replay(table, providers, books, most, tray);
+    replay(table, providers, books, most, events, tray, answers);
 }
 
 // As much of each as was loaded, if all were.
@@ -270,7 +450,9 @@ fn loaded(
     books: &[u8],
     b: usize,
     most: u8,
+    events: &mut [u8],
     tray: &mut [u8],
+    answers: &mut [u8],
 ) {
     if t > table.len() {
         return;
@@ -281,11 +463,26 @@ fn loaded(
     if b > books.len() {
         return;
     }
-    checked(&mut table[..t], &providers[..p], &books[..b], most, tray);
+    checked(
+        &mut table[..t],
+        &providers[..p],
+        &books[..b],
+        most,
+        events,
+        tray,
+        answers,
+    );
 }
 
 // Reads what is lent to each event.
-fn run(table: &mut [u8], providers: &mut [u8], books: &mut [u8], tray: &mut [u8]) {
+fn run(
+    table: &mut [u8],
+    providers: &mut [u8],
+    books: &mut [u8],
+    events: &mut [u8],
+    tray: &mut [u8],
+    answers: &mut [u8],
+) {
     if os::arg_count() != ARGUMENTS {
         files::say(b"usage: replay TABLE PROVIDERS BOOKS R EVENTS OUTCOMES MESSAGES TABLE-AFTER");
         return;
@@ -302,13 +499,33 @@ fn run(table: &mut [u8], providers: &mut [u8], books: &mut [u8], tray: &mut [u8]
         b"the provider list has more than 63 bytes",
     );
     let b = files::load(BOOKS, books, b"the books are not 8,712 bytes");
-    loaded(table, t, providers, p, books, b, most, tray);
+    loaded(
+        table,
+        t,
+        providers,
+        p,
+        books,
+        b,
+        most,
+        events,
+        tray,
+        answers,
+    );
 }
 
 fn main() {
     let mut table = [0u8; 327680];
     let mut providers = [0u8; 63];
     let mut books = [0u8; 8712];
-    let mut tray = [0u8; 1536];
-    run(&mut table, &mut providers, &mut books, &mut tray);
+    let mut events = [0u8; 24576];
+    let mut tray = [0u8; 98304];
+    let mut answers = [0u8; 2048];
+    run(
+        &mut table,
+        &mut providers,
+        &mut books,
+        &mut events,
+        &mut tray,
+        &mut answers,
+    );
 }
