@@ -5,8 +5,8 @@ use mathlib.Core.Path.{_≡_, refl, _∙_}
 use Prim.Native.Nat.{_-_, _≤_}
 use lib.ListN.{length}
 use native.Mathlib.Omega.{arith}
-use Rattle.replay.proofs.whole.Statement.{statement}
-use Rattle.replay.proofs.whole.Tie as tie
+use Rattle.replay.proofs.events.whole.Statement.{statement}
+use Rattle.replay.proofs.events.whole.Tie as tie
 
 abbrev Inv-loop : tie.InvT-loop
 Inv-loop first outcomes messages table₀ providers books most events tray₀ answers₀ place₀ from₀ table tray answers place from =

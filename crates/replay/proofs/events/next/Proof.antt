@@ -4,8 +4,8 @@ use borrow.Author.Needs.{needs}
 use mathlib.Core.Path.{sym}
 use lib.Seq.{length-take-le}
 use native.Mathlib.Omega.{arith}
-use Rattle.replay.proofs.next.Statement.{statement}
-use Rattle.replay.proofs.next.Tie as tie
+use Rattle.replay.proofs.events.next.Statement.{statement}
+use Rattle.replay.proofs.events.next.Tie as tie
 
 read-full-requires : tie.Need-read-full-requires
 read-full-requires c κs = search needs
@@ -22,6 +22,18 @@ slice-aggregate-whole c = sym (length-take-le _ _ (omega arith))
 whole-requires : tie.Need-whole-requires
 whole-requires c κs = search needs
 
+sub-rest : tie.Need-sub-rest
+sub-rest c = search needs
+
+part-rest-start : tie.Need-part-rest-start
+part-rest-start c = search needs
+
+part-rest-end : tie.Need-part-rest-end
+part-rest-end c = search needs
+
+rest-requires : tie.Need-rest-requires
+rest-requires c κs = search needs
+
 same-length : tie.Need-same-length
 same-length c = search needs
 
@@ -37,33 +49,6 @@ same-length-4 c = search needs
 returns : tie.Need-returns
 returns c = search needs
 
-sub-rest : tie.Need-sub-rest
-sub-rest c = search needs
-
-part-rest-start : tie.Need-part-rest-start
-part-rest-start c = search needs
-
-part-rest-end : tie.Need-part-rest-end
-part-rest-end c = search needs
-
-rest-requires : tie.Need-rest-requires
-rest-requires c κs = search needs
-
-same-length-5 : tie.Need-same-length-5
-same-length-5 c = search needs
-
-same-length-6 : tie.Need-same-length-6
-same-length-6 c = search needs
-
-same-length-7 : tie.Need-same-length-7
-same-length-7 c = search needs
-
-same-length-8 : tie.Need-same-length-8
-same-length-8 c = search needs
-
-returns-2 : tie.Need-returns-2
-returns-2 c = search needs
-
 pub next-spec : {M : Type 1} → statement M
 next-spec =
     tie.close
@@ -73,17 +58,12 @@ next-spec =
     slice-reshare-prefix-whole
     slice-aggregate-whole
     whole-requires
-    same-length
-    same-length-2
-    same-length-3
-    same-length-4
-    returns
     sub-rest
     part-rest-start
     part-rest-end
     rest-requires
-    same-length-5
-    same-length-6
-    same-length-7
-    same-length-8
-    returns-2)
+    same-length
+    same-length-2
+    same-length-3
+    same-length-4
+    returns)

@@ -4,8 +4,8 @@ use borrow.Author.Needs.{needs}
 use mathlib.Core.Path.{_≡_, refl, _∙_}
 use lib.ListN.{length}
 use native.Mathlib.Omega.{arith}
-use Rattle.replay.proofs.each.Statement.{statement}
-use Rattle.replay.proofs.each.Tie as tie
+use Rattle.replay.proofs.events.each.Statement.{statement}
+use Rattle.replay.proofs.events.each.Tie as tie
 
 abbrev Inv-loop : tie.InvT-loop
 Inv-loop input outcomes messages table₀ providers books most events₀ tray₀ answers₀ place₀ turns₀ table events tray answers place turns =

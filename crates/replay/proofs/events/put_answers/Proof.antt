@@ -3,8 +3,8 @@
 use borrow.Author.Needs.{needs}
 use Prim.Native.Nat.{_-_}
 use native.Mathlib.Omega.{arith}
-use Rattle.replay.proofs.put_answers.Statement.{statement}
-use Rattle.replay.proofs.put_answers.Tie as tie
+use Rattle.replay.proofs.events.put_answers.Statement.{statement}
+use Rattle.replay.proofs.events.put_answers.Tie as tie
 
 abbrev Inv-loop : tie.InvT-loop
 Inv-loop fd first answers count place₀ i₀ t7 place i = Unit {0}
