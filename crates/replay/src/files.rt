@@ -2,6 +2,25 @@
 use libc::STDERR_FILENO;
 use libc::STDOUT_FILENO;
 
+// The arguments, by their places.
+pub const TABLE: usize = 1;
+
+pub const PROVIDERS: usize = 2;
+
+pub const BOOKS: usize = 3;
+
+pub const RETRIES: usize = 4;
+
+pub const EVENTS: usize = 5;
+
+pub const OUTCOMES: usize = 6;
+
+pub const MESSAGES: usize = 7;
+
+pub const AFTER: usize = 8;
+// With the program's own name.
+pub const ARGUMENTS: usize = 9;
+
 // No number of bytes that a file has.
 pub const NONE: usize = 18_446_744_073_709_551_615;
 

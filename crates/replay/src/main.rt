@@ -1,50 +1,25 @@
 // Replays a file of event records on a table, with a provider list, books and R, and writes outcomes, messages and the table after them.
-// Thin over the engine: all that decides is `engine::step`.
+// Thin over the engine: all that decides is `batch::run`, which is `engine::step` again and again.
+mod events;
 mod files;
 
+use files::AFTER;
+use files::ARGUMENTS;
+use files::BOOKS;
+use files::EVENTS;
+use files::MESSAGES;
+use files::OUTCOMES;
+use files::PROVIDERS;
+use files::RETRIES;
+use files::TABLE;
 use libc::STDERR_FILENO;
 use table::scan::Soundness;
-
-// The arguments, by their places.
-const TABLE: usize = 1;
-
-const PROVIDERS: usize = 2;
-
-const BOOKS: usize = 3;
-
-const RETRIES: usize = 4;
-
-const EVENTS: usize = 5;
-
-const OUTCOMES: usize = 6;
-
-const MESSAGES: usize = 7;
-
-const AFTER: usize = 8;
-// With the program's own name.
-const ARGUMENTS: usize = 9;
 
 const MOST_RETRIES: u8 = 7;
 
 const ROW: usize = 80;
 
 const BOOK_BYTES: usize = 8712;
-
-const RECORD: usize = 24;
-
-const MESSAGE: usize = 24;
-
-const TRAY_PLACES: u64 = 64;
-// So many events and again so many: a line of progress.
-const PROGRESS: u64 = 10_000;
-
-const MOST_EVENTS: u64 = 18_446_744_073_709_551_615;
-// What a turn says: one event more, the input's end, or a file that cannot be read or written.
-const ON: u8 = 0;
-
-const END: u8 = 1;
-
-const BROKEN: u8 = 2;
 
 // A digit's number; more than 7 for any other byte.
 fn number(digit: u8) -> u8 {
@@ -98,114 +73,6 @@ fn books_fit(providers: &[u8], books: &[u8]) -> bool {
     kept
 }
 
-fn put_next(fd: i32, n: u64) -> bool {
-    let spaced = io::write_all(fd, b" ");
-    let put = io::print_decimal(fd, n);
-    spaced & put
-}
-
-// A line: place from 1, outcome, message count.
-fn put_line(fd: i32, place: u64, outcome: u64, count: u64) -> bool {
-    let first = io::print_decimal(fd, place);
-    let second = put_next(fd, outcome);
-    let third = put_next(fd, count);
-    let end = io::write_all(fd, b"\n");
-    first & second & third & end
-}
-
-// The first `count` places of the tray.
-fn put_messages(fd: i32, tray: &[u8], count: u64) -> bool {
-    if count > TRAY_PLACES {
-        return false;
-    }
-    let n = count as usize * MESSAGE;
-    if n > tray.len() {
-        return false;
-    }
-    io::write_all(fd, &tray[..n])
-}
-
-// One event more, if there is one; a part of a record at the end is an event too.
-fn one(
-    place: u64,
-    events: i32,
-    outcomes: i32,
-    messages: i32,
-    table: &mut [u8],
-    providers: &[u8],
-    books: &[u8],
-    most: u8,
-    tray: &mut [u8],
-) -> u8 {
-    let mut event = [0u8; RECORD];
-    let n = io::read_full(events, &mut event);
-    if n == 0 {
-        return END;
-    }
-    let a = engine::step::step(table, providers, books, most, &event[..n], tray);
-    if !put_line(outcomes, place, a.outcome, a.count) {
-        files::fail(b"OUTCOMES");
-        return BROKEN;
-    }
-    if !put_messages(messages, tray, a.count) {
-        files::fail(b"MESSAGES");
-        return BROKEN;
-    }
-    ON
-}
-
-fn tell(place: u64) {
-    if place % PROGRESS == 0 {
-        io::print_decimal(STDERR_FILENO, place);
-        io::write_all(STDERR_FILENO, b" events\n");
-    }
-}
-
-// The place behind the last event; 0 where not all were replayed.
-fn reached(turn: u8, place: u64, events: i32) -> u64 {
-    if turn == BROKEN {
-        return 0;
-    }
-    if files::ended(events, EVENTS, b"grew while it was read") {
-        place
-    } else {
-        0
-    }
-}
-
-// All events, up to the input's end.
-fn each(
-    events: i32,
-    outcomes: i32,
-    messages: i32,
-    table: &mut [u8],
-    providers: &[u8],
-    books: &[u8],
-    most: u8,
-    tray: &mut [u8],
-) -> u64 {
-    let mut place: u64 = 1;
-    while place < MOST_EVENTS {
-        let turn = one(
-            place,
-            events,
-            outcomes,
-            messages,
-            table,
-            providers,
-            books,
-            most,
-            tray,
-        );
-        if turn != ON {
-            return reached(turn, place, events);
-        }
-        tell(place);
-        place += 1;
-    }
-    0
-}
-
 // Outcomes and messages stand; the table after them, and a last line that says so.
 fn finish(count: u64, outcomes: i32, messages: i32, table: &[u8]) {
     if !files::close(outcomes, b"OUTCOMES") {
@@ -221,9 +88,17 @@ fn finish(count: u64, outcomes: i32, messages: i32, table: &[u8]) {
 }
 
 // The events on what was checked. The table after them is written last, so that it stands for all of them or is not there.
-fn replay(table: &mut [u8], providers: &[u8], books: &[u8], most: u8, tray: &mut [u8]) {
-    let events = files::open_input(EVENTS);
-    if events < 0 {
+fn replay(
+    table: &mut [u8],
+    providers: &[u8],
+    books: &[u8],
+    most: u8,
+    events: &mut [u8],
+    tray: &mut [u8],
+    answers: &mut [u8],
+) {
+    let input = files::open_input(EVENTS);
+    if input < 0 {
         return;
     }
     let outcomes = files::open_output(OUTCOMES);
@@ -234,15 +109,17 @@ fn replay(table: &mut [u8], providers: &[u8], books: &[u8], most: u8, tray: &mut
     if messages < 0 {
         return;
     }
-    let behind = each(
-        events,
+    let behind = events::each(
+        input,
         outcomes,
         messages,
         table,
         providers,
         books,
         most,
+        events,
         tray,
+        answers,
     );
     if behind == 0 {
         return;
@@ -251,14 +128,22 @@ fn replay(table: &mut [u8], providers: &[u8], books: &[u8], most: u8, tray: &mut
 }
 
 // Checks what is lent to each event, before any file is written.
-fn checked(table: &mut [u8], providers: &[u8], books: &[u8], most: u8, tray: &mut [u8]) {
+fn checked(
+    table: &mut [u8],
+    providers: &[u8],
+    books: &[u8],
+    most: u8,
+    events: &mut [u8],
+    tray: &mut [u8],
+    answers: &mut [u8],
+) {
     if !table_fits(table) {
         return;
     }
     if !books_fit(providers, books) {
         return;
     }
-    replay(table, providers, books, most, tray);
+    replay(table, providers, books, most, events, tray, answers);
 }
 
 // As much of each as was loaded, if all were.
@@ -270,7 +155,9 @@ fn loaded(
     books: &[u8],
     b: usize,
     most: u8,
+    events: &mut [u8],
     tray: &mut [u8],
+    answers: &mut [u8],
 ) {
     if t > table.len() {
         return;
@@ -281,11 +168,26 @@ fn loaded(
     if b > books.len() {
         return;
     }
-    checked(&mut table[..t], &providers[..p], &books[..b], most, tray);
+    checked(
+        &mut table[..t],
+        &providers[..p],
+        &books[..b],
+        most,
+        events,
+        tray,
+        answers,
+    );
 }
 
 // Reads what is lent to each event.
-fn run(table: &mut [u8], providers: &mut [u8], books: &mut [u8], tray: &mut [u8]) {
+fn run(
+    table: &mut [u8],
+    providers: &mut [u8],
+    books: &mut [u8],
+    events: &mut [u8],
+    tray: &mut [u8],
+    answers: &mut [u8],
+) {
     if os::arg_count() != ARGUMENTS {
         files::say(b"usage: replay TABLE PROVIDERS BOOKS R EVENTS OUTCOMES MESSAGES TABLE-AFTER");
         return;
@@ -302,13 +204,33 @@ fn run(table: &mut [u8], providers: &mut [u8], books: &mut [u8], tray: &mut [u8]
         b"the provider list has more than 63 bytes",
     );
     let b = files::load(BOOKS, books, b"the books are not 8,712 bytes");
-    loaded(table, t, providers, p, books, b, most, tray);
+    loaded(
+        table,
+        t,
+        providers,
+        p,
+        books,
+        b,
+        most,
+        events,
+        tray,
+        answers,
+    );
 }
 
 fn main() {
     let mut table = [0u8; 327680];
     let mut providers = [0u8; 63];
     let mut books = [0u8; 8712];
-    let mut tray = [0u8; 1536];
-    run(&mut table, &mut providers, &mut books, &mut tray);
+    let mut events = [0u8; 24576];
+    let mut tray = [0u8; 98304];
+    let mut answers = [0u8; 2048];
+    run(
+        &mut table,
+        &mut providers,
+        &mut books,
+        &mut events,
+        &mut tray,
+        &mut answers,
+    );
 }

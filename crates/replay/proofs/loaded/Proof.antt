@@ -37,6 +37,12 @@ same-length c = search needs
 same-length-2 : tie.Need-same-length-2
 same-length-2 c = search needs
 
+same-length-3 : tie.Need-same-length-3
+same-length-3 c = search needs
+
+same-length-4 : tie.Need-same-length-4
+same-length-4 c = search needs
+
 returns-4 : tie.Need-returns-4
 returns-4 c = search needs
 
@@ -54,4 +60,6 @@ loaded-spec =
     checked-requires
     same-length
     same-length-2
+    same-length-3
+    same-length-4
     returns-4)

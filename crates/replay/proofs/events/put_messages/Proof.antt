@@ -4,8 +4,8 @@ use borrow.Author.Needs.{needs}
 use mathlib.Core.Path.{sym}
 use lib.Seq.{length-take-le}
 use native.Mathlib.Omega.{arith}
-use Rattle.replay.proofs.put_messages.Statement.{statement}
-use Rattle.replay.proofs.put_messages.Tie as tie
+use Rattle.replay.proofs.events.put_messages.Statement.{statement}
+use Rattle.replay.proofs.events.put_messages.Tie as tie
 
 returns : tie.Need-returns
 returns c = search needs

@@ -1,0 +1,287 @@
+// The events of the input, a thousand at a time: their lines, their messages, and the place behind the last, counted from 1. A place of 0
+// says that a file could not be read or written.
+use crate::files;
+use crate::files::EVENTS;
+use libc::STDERR_FILENO;
+
+const RECORD: usize = 24;
+
+const MESSAGE: usize = 24;
+// So many records are read at once, and so many messages find room.
+const AT_ONCE: u64 = 1024;
+
+const TRAY_PLACES: u64 = 4096;
+// So many events and again so many: a line of progress.
+const PROGRESS: u64 = 10_000;
+
+const MOST_EVENTS: u64 = 18_446_744_073_709_551_615;
+
+// The place behind the events that were done, and how many bytes of records they were.
+struct Done {
+    place: u64,
+    bytes: usize,
+}
+
+fn put_next(fd: i32, n: u64) -> bool {
+    let spaced = io::write_all(fd, b" ");
+    let put = io::print_decimal(fd, n);
+    spaced & put
+}
+
+// A line: place from 1, outcome, message count.
+fn put_line(fd: i32, place: u64, outcome: u64, count: u64) -> bool {
+    let first = io::print_decimal(fd, place);
+    let second = put_next(fd, outcome);
+    let third = put_next(fd, count);
+    let end = io::write_all(fd, b"\n");
+    first & second & third & end
+}
+
+// The first `count` places of the tray.
+fn put_messages(fd: i32, tray: &[u8], count: u64) -> bool {
+    if count > TRAY_PLACES {
+        return false;
+    }
+    let n = count as usize * MESSAGE;
+    if n > tray.len() {
+        return false;
+    }
+    io::write_all(fd, &tray[..n])
+}
+
+fn tell(place: u64) {
+    if place % PROGRESS == 0 {
+        io::print_decimal(STDERR_FILENO, place);
+        io::write_all(STDERR_FILENO, b" events\n");
+    }
+}
+
+fn wide(b: u8) -> u64 {
+    b as u64
+}
+
+// The line of the i-th event of a run: outcome and count stand in two bytes.
+fn put_answer(fd: i32, place: u64, answers: &[u8], i: usize) -> bool {
+    if i >= answers.len() / 2 {
+        return false;
+    }
+    let outcome = wide(answers[2 * i]);
+    let count = wide(answers[2 * i + 1]);
+    put_line(fd, place, outcome, count)
+}
+
+// The lines of a run; the place behind its last event, or 0.
+fn put_answers(fd: i32, first: u64, answers: &[u8], count: usize) -> u64 {
+    let mut place = first;
+    let mut i: usize = 0;
+    while i < count {
+        if place >= MOST_EVENTS {
+            return 0;
+        }
+        if !put_answer(fd, place, answers, i) {
+            files::fail(b"OUTCOMES");
+            return 0;
+        }
+        tell(place);
+        place += 1;
+        i += 1;
+    }
+    place
+}
+
+fn nothing() -> Done {
+    Done { place: 0, bytes: 0 }
+}
+
+// As many of the records as the tray has room for.
+fn some(
+    place: u64,
+    outcomes: i32,
+    messages: i32,
+    table: &mut [u8],
+    providers: &[u8],
+    books: &[u8],
+    most: u8,
+    events: &[u8],
+    tray: &mut [u8],
+    answers: &mut [u8],
+) -> Done {
+    let ran = batch::run(table, providers, books, most, events, tray, answers);
+    if ran.outcome != 0 {
+        files::say(b"refused what was checked");
+        return nothing();
+    }
+    let count = ran.events;
+    if count > AT_ONCE {
+        return nothing();
+    }
+    let behind = put_answers(outcomes, place, answers, count as usize);
+    if behind == 0 {
+        return nothing();
+    }
+    if !put_messages(messages, tray, ran.messages) {
+        files::fail(b"MESSAGES");
+        return nothing();
+    }
+    Done {
+        place: behind,
+        bytes: count as usize * RECORD,
+    }
+}
+
+// Whole records; the place behind them, or 0.
+fn whole(
+    first: u64,
+    outcomes: i32,
+    messages: i32,
+    table: &mut [u8],
+    providers: &[u8],
+    books: &[u8],
+    most: u8,
+    events: &[u8],
+    tray: &mut [u8],
+    answers: &mut [u8],
+) -> u64 {
+    let mut place = first;
+    let mut from: usize = 0;
+    while from < events.len() {
+        let d = some(
+            place,
+            outcomes,
+            messages,
+            table,
+            providers,
+            books,
+            most,
+            &events[from..],
+            tray,
+            answers,
+        );
+        let bytes = d.bytes;
+        if bytes == 0 {
+            return 0;
+        }
+        if bytes > events.len() - from {
+            return 0;
+        }
+        place = d.place;
+        from += bytes;
+    }
+    place
+}
+
+// A part of a record at the end is an event too.
+fn rest(
+    place: u64,
+    outcomes: i32,
+    table: &mut [u8],
+    providers: &[u8],
+    books: &[u8],
+    most: u8,
+    event: &[u8],
+    tray: &mut [u8],
+) -> u64 {
+    if place == 0 || event.len() == 0 {
+        return place;
+    }
+    let a = engine::step::step(table, providers, books, most, event, tray);
+    if !put_line(outcomes, place, a.outcome, a.count) {
+        files::fail(b"OUTCOMES");
+        return 0;
+    }
+    tell(place);
+    if place >= MOST_EVENTS {
+        return 0;
+    }
+    place + 1
+}
+
+// The next events of the input; the place behind them, which is the same where the input ended, or 0.
+fn next(
+    place: u64,
+    input: i32,
+    outcomes: i32,
+    messages: i32,
+    table: &mut [u8],
+    providers: &[u8],
+    books: &[u8],
+    most: u8,
+    events: &mut [u8],
+    tray: &mut [u8],
+    answers: &mut [u8],
+) -> u64 {
+    let n = io::read_full(input, events);
+    let end = n - n % RECORD;
+    let behind = whole(
+        place,
+        outcomes,
+        messages,
+        table,
+        providers,
+        books,
+        most,
+        &events[..end],
+        tray,
+        answers,
+    );
+    rest(
+        behind,
+        outcomes,
+        table,
+        providers,
+        books,
+        most,
+        &events[end..n],
+        tray,
+    )
+}
+
+// The place behind the last event; 0 where not all were replayed.
+fn reached(place: u64, input: i32) -> u64 {
+    if files::ended(input, EVENTS, b"grew while it was read") {
+        place
+    } else {
+        0
+    }
+}
+
+// All events, up to the input's end.
+pub fn each(
+    input: i32,
+    outcomes: i32,
+    messages: i32,
+    table: &mut [u8],
+    providers: &[u8],
+    books: &[u8],
+    most: u8,
+    events: &mut [u8],
+    tray: &mut [u8],
+    answers: &mut [u8],
+) -> u64 {
+    let mut place: u64 = 1;
+    let mut turns = MOST_EVENTS;
+    while turns > 0 {
+        let behind = next(
+            place,
+            input,
+            outcomes,
+            messages,
+            table,
+            providers,
+            books,
+            most,
+            events,
+            tray,
+            answers,
+        );
+        if behind == 0 {
+            return 0;
+        }
+        if behind == place {
+            return reached(place, input);
+        }
+        place = behind;
+        turns -= 1;
+    }
+    0
+}
