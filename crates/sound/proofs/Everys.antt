@@ -1,9 +1,8 @@
 -- What holds of each system: sets apart, and retries. Assumes nothing.
-use mathlib.Core.Path.{_≡_, refl, sym, ap, _∙_, subst}
+use mathlib.Core.Path.{_≡_, refl, sym, ap, _∙_}
 use mathlib.Core.Bool.{Bool, true, false, cond, not, _&&_, _||_, or-true}
-use Prim.Native.Nat.{ℕ, zero, suc, _+_, _%_, _^_, _≤_, _<_}
+use Prim.Native.Nat.{ℕ, zero, suc, _%_, _^_, _≤_, _<_}
 use native.Mathlib.Nat.{zero-div, mod-lt, div-one, mod-mod, lt-of-le-of-lt}
-use native.Mathlib.Numerals.{add-one}
 use native.Mathlib.Omega.{arith}
 use borrow.Author.Tests.{ltb-true, ltb-false, eq-eqb}
 use lib.Dec.{eqb, ltb, lit<}
@@ -15,18 +14,8 @@ use Rattle.model.specs.declared.Broadcast.{Broadcast}
 use Rattle.model.specs.Basics.{every}
 use Rattle.model.specs.Retries.{octal, used}
 use Rattle.model.specs.Sound.{apart, retriesFit}
-use Rattle.model.proofs.Lists.{clash, none-true}
+use Rattle.model.proofs.Lists.{clash}
 use Rattle.model.proofs.SoundSets.{every-at, every-all}
-
--- ---- a test of each of 1 to n
-
-module _ (f : ℕ → Bool) where
-  pub every-false : (n p : ℕ) → 1 ≤ p → p ≤ n → f p ≡ false → every f n ≡ false
-  every-false n p z l e = none-true (every f n) (λ q. clash (sym e ∙ every-at f n p q z l))
-
-  pub every-more : (n : ℕ) → every f n ≡ true → f (n + 1) ≡ true → every f (n + 1) ≡ true
-  unfolding every
-  every-more n e h = rw add-one (rw (e, rw add-one at h))
 
 -- ---- sets apart
 
@@ -89,13 +78,3 @@ unfolding retriesFit
 retries-none c x y z =
     every-all (waits c) 63
     (λ p h l. rw (eq-eqb (used (c .retries) p) 0 (used-none (c .retries) p x y z)) (or-true (member (c .waiting) p)))
-
-pub retries-refused : (c : Broadcast) (p : ℕ) → 0 < p → p ≤ 63 → member (c .waiting) p ≡ false → eqb (used (c .retries) p) 0 ≡ false → retriesFit c ≡ false
-unfolding retriesFit
-retries-refused c p z l m u = every-false (waits c) 63 p z l (rw (m, u))
-
-pub retries-all : (c : Broadcast) (p : ℕ) → 63 ≤ p → p ≤ 63 → every (waits c) p ≡ true → retriesFit c ≡ true
-unfolding retriesFit
-retries-all c p l k e =
-    let q : p ≡ 63 = omega arith in
-    subst (λ (n : ℕ). every (waits c) n ≡ true) q e

@@ -1,3 +1,6 @@
 -- The crate's laws.
 pub mod Choices
 pub mod Everys
+pub mod Waiting
+pub mod Fitting
+pub mod Clauses

@@ -1,12 +1,10 @@
 // What a version's broadcast has.
-use crate::sides;
 use model::Broadcast;
-use model::Retries;
 use model::Version;
 ghost use mathlib.Core.Path.{_≡_};
-ghost use Prim.Native.Nat.{_≤_, _<_};
-ghost use Rattle.model.specs.Retries.{octal, used};
-ghost use Rattle.model.specs.Sound.{apart, setsApart, retriesFit, startFits, waitingFits, purposeFits, liveFits, liveConfirmed};
+ghost use Prim.Native.Nat.{_<_};
+ghost use Rattle.model.specs.Sound.{apart, setsApart, retriesFit, startFits, waitingFits, liveConfirmed};
+ghost use Rattle.sound.specs.Digits.{digitsWait};
 
 // Whether no provider is in both sets. Place 0 is no provider's.
 pub fn disjoint(a: u64, b: u64) -> bool
@@ -23,43 +21,37 @@ pub fn sets_apart(c: Broadcast) -> bool
         & disjoint(c.waiting, c.failed)
 }
 
-fn digit(w: u64, q: u8) -> u64
-    requires { ⌜ q < 21 ⌝ }
-    ensures { λ r. ⌜ r ≡ octal q w ⌝ }
+// Whether each of 21 digits is 0 or its system is in the set, whose place 0 is the first of them; done where all digits left are 0.
+fn digits_wait(word: u64, set: u64) -> bool
+    requires { ⌜ word < 9223372036854775808 ⌝ }
+    ensures { λ r. ⌜ r ≡ digitsWait 21 word set ⌝ }
 {
-    let at = 3 * q;
-    (w >> at) % 8
+    let mut w = word;
+    let mut s = set;
+    while w != 0 {
+        if (s % 2 == 0) & (w % 8 != 0) {
+            return false;
+        }
+        w = w / 8;
+        s = s / 2;
+    }
+    true
 }
 
-// The retries that system p has used.
-pub fn used_by(r: Retries, p: u8) -> u64
-    requires { ⌜ (1 ≤ p) × (p < 64) ⌝ }
-    ensures { λ n. ⌜ n ≡ used r p ⌝ }
-{
-    if p <= 21 {
-        return digit(r.low, p - 1);
-    }
-    if p <= 42 {
-        return digit(r.mid, p - 22);
-    }
-    digit(r.high, p - 43)
-}
-
-// System by system: only where some retries are used.
+// Systems 1 to 21, 22 to 42, 43 to 63.
 fn all_wait(c: Broadcast) -> bool
     ensures { λ r. ⌜ r ≡ retriesFit c ⌝ }
 {
-    let retries = c.retries;
-    let mut p: u8 = 0;
-    while p < 63 {
-        p += 1;
-        if !systems::has(c.waiting, p) {
-            if used_by(retries, p) != 0 {
-                return false;
-            }
-        }
+    let low = c.retries.low % 9223372036854775808;
+    let mid = c.retries.mid % 9223372036854775808;
+    let high = c.retries.high % 9223372036854775808;
+    if !digits_wait(low, c.waiting / 2) {
+        return false;
     }
-    true
+    if !digits_wait(mid, c.waiting / 4194304) {
+        return false;
+    }
+    digits_wait(high, c.waiting / 8796093022208)
 }
 
 pub fn retries_fit(c: Broadcast) -> bool
@@ -85,22 +77,6 @@ pub fn waiting_fits(v: Version) -> bool
     ensures { λ r. ⌜ r ≡ waitingFits v ⌝ }
 {
     (0 < v.cast.waiting) == (v.status == 3)
-}
-
-pub fn purpose_fits(v: Version) -> bool
-    ensures { λ r. ⌜ r ≡ purposeFits v ⌝ }
-{
-    ((0 < v.cast.purpose) == sides::purposed(v.status))
-        & (!((v.status == 4) | (v.status == 5)) | (v.cast.purpose == 1))
-}
-
-pub fn live_fits(v: Version) -> bool
-    ensures { λ r. ⌜ r ≡ liveFits v ⌝ }
-{
-    if v.status == 3 {
-        return v.live | (v.cast.purpose == 1);
-    }
-    v.live == ((v.status == 5) | (v.status == 6))
 }
 
 pub fn live_confirmed(v: Version) -> bool

@@ -6,11 +6,11 @@ ghost use mathlib.Core.Path.{_≡_};
 ghost use Rattle.model.specs.Numbers.{tenDigits, isProvider, isSet, isTime, isNumber};
 ghost use Rattle.model.specs.Sound.{retriesInRange, castInRange, inRange};
 
-// Ten digits, the first and the fourth of them 2 to 9.
+// Ten digits, the first and the fourth of them 2 to 9: the last seven say 2,000,000 or more.
 pub fn ten_digits(x: u64) -> bool
     ensures { λ r. ⌜ r ≡ tenDigits x ⌝ }
 {
-    (2000000000 <= x) & (x < 10000000000) & (2 <= x / 1000000 % 10)
+    (2000000000 <= x) & (x < 10000000000) & (2000000 <= x % 10000000)
 }
 
 pub fn is_time(t: u32) -> bool

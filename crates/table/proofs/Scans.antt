@@ -1,9 +1,10 @@
 -- The laws of `specs/Sound.antt`: a turn of the loop, and what a table of sound rows is. Assumes nothing.
 use mathlib.Core.Path.{_≡_, refl, sym, ap, ap₂, _∙_, subst}
-use mathlib.Core.Bool.{Bool, true, false}
+use mathlib.Core.Bool.{Bool, true, false, _&&_, and-false}
+use borrow.Author.Tests.{ne-eqb}
 use mathlib.Core.Logic.{_⊎_, inl, inr, ⊎-elim}
 use mathlib.Core.List.{List, [], _∷_, _++_, map}
-use Prim.Native.Nat.{ℕ, zero, suc, _+_, _-_, _*_, _/_, _≤_, _<_, zero-le}
+use Prim.Native.Nat.{ℕ, zero, suc, _+_, _-_, _*_, _/_, _%_, _≤_, _<_, zero-le}
 use native.Mathlib.Nat.{add-zero, zero-add, sub-zero, suc-sub-suc}
 use native.Mathlib.Omega.{arith}
 use native.Mathlib.Numerals.{add-one}
@@ -16,18 +17,17 @@ use Rattle.row.specs.declared.Words.{Words}
 use Rattle.row.specs.Size.{ROW}
 use Rattle.row.specs.Codec.{wordsIn, isBlank, blank}
 use Rattle.row.specs.Layout.{versionOf, spareless, pack, unpack}
-use Rattle.row.proofs.Rooms.{sound-room}
+use Rattle.row.proofs.Rooms.{sound-room, sound-tn}
 use Rattle.row.proofs.Packs.{unpack-pack, pack-unpack, pack-spareless, blank-row, blank-free, pack-used}
 use Rattle.table.specs.declared.join.Group.{Group}
-use Rattle.table.specs.declared.join.Joined.{Joined}
 use Rattle.table.specs.declared.join.Joined.the-variants.{No, Yes}
 use Rattle.table.specs.declared.scan.Scan.{Scan}
 use Rattle.table.specs.declared.scan.Scan.the-variants.{Bad, Open, Ended}
 use Rattle.table.specs.Chunks.{chunks, joined}
 use Rattle.table.specs.Place.{rowAt}
 use Rattle.table.specs.Table.{piecesOf, used, decode, cells, encode}
-use Rattle.table.specs.Join.{start, follows, next, joinOf, Chain}
-use Rattle.table.specs.Sound.{pick, admitOf, openBy, usedBy, scanRow, scanRows, rowsIn}
+use Rattle.table.specs.Join.{start, follows, next, joinIf, joinOf, Chain}
+use Rattle.table.specs.Sound.{pick, admitOf, openBy, scanRow, scanRows, rowsIn}
 use Rattle.table.proofs.Pieces.{Even, chunks-even, chunks-joined}
 use Rattle.table.proofs.Sounds.{AllSound}
 use Rattle.table.proofs.Tables.{rows-length, rows-at, rows-encode}
@@ -45,19 +45,57 @@ pub scan-done : (t : List ℕ) (i : ℕ) (s : Scan) → length t / ROW ≤ i →
 unfolding scanRows
 scan-done t i s h = ap (scanRows s) (drop-of-length-le (piecesOf t) {i = i} (rw (rows-length t) h))
 
-pick-le : (b : Bool) (x y : Scan) (n : ℕ) → usedBy x ≤ n → usedBy y ≤ n → usedBy (pick b x y) ≤ n
-pick-le true x y n h k = h
-pick-le false x y n h k = k
+bad-stays : (bs : List (List ℕ)) → scanRows Bad bs ≡ Bad
+unfolding scanRows scanRow
+bad-stays [] = refl
+bad-stays (b ∷ bs) = bad-stays bs
 
-open-le : (n : ℕ) (j : Joined) → usedBy (openBy n j) ≤ n + 1
-open-le n No = omega arith
-open-le n (Yes g) = omega arith
+no-tn : (w : Words) → w .head ≡ 0 → 0 < versionOf w .id .tn .0 → ⊥
+unfolding versionOf
+no-tn w z h =
+    let p : 0 < 0 / 1073741824 % 17179869184 = rw z at h in
+    omega arith
 
-pub used-grows : (s : Scan) (w : Words) → usedBy (scanRow s w) ≤ usedBy s + 1
-unfolding scanRow
-used-grows Bad w = omega arith
-used-grows (Open n g) w = pick-le (isBlank w) (Ended n) (openBy n (admitOf g w)) (n + 1) (omega arith) (open-le n (admitOf g w))
-used-grows (Ended n) w = pick-le (isBlank w) (Ended n) Bad (n + 1) (omega arith) (omega arith)
+-- a row whose first word is 0 is no version's: it ends the used rows, or is unsound
+no-version : (w : Words) → w .head ≡ 0 → soundVersion (versionOf w) ≡ false
+no-version w z = go (soundVersion (versionOf w)) refl
+  where
+    go : (b : Bool) → soundVersion (versionOf w) ≡ b → b ≡ false
+    go true e = absurd (no-tn w z (sound-tn (versionOf w) e))
+    go false e = refl
+
+open-zero : (n : ℕ) (g : Group) (w : Words) → w .head ≡ 0 → scanRow (Open n g) w ≡ scanRow (Ended n) w
+unfolding scanRow admitOf
+open-zero n g w z = ap (λ (b : Bool). pick (isBlank w) (Ended n) (openBy n (joinIf (spareless w && b) (joinOf g (versionOf w)) No))) (no-version w z) ∙ rw and-false
+
+head-used : (w : Words) → (w .head ≡ 0 → ⊥) → isBlank w ≡ false
+unfolding isBlank
+head-used w h = rw (ne-eqb (w .head) 0 h)
+
+module _ (t : List ℕ) (i : ℕ) (h : i < length t / ROW) where
+  -- a free row after the used ones leaves it to the next, and any other is unsound
+  pub ended-next : (n : ℕ) → isBlank (wordsIn (rowAt t i)) ≡ true → scanRows (Ended n) (drop (i + 1) (piecesOf t)) ≡ scanRows (Ended n) (drop i (piecesOf t))
+  unfolding scanRow
+  ended-next n e = sym (scan-step t i (Ended n) h ∙ rw e)
+
+  pub ended-bad : (n : ℕ) → isBlank (wordsIn (rowAt t i)) ≡ false → Bad ≡ scanRows (Ended n) (drop i (piecesOf t))
+  unfolding scanRow
+  ended-bad n e = sym (scan-step t i (Ended n) h ∙ rw e (bad-stays (drop (i + 1) (piecesOf t))))
+
+  -- the same among the used ones
+  module _ (n : ℕ) (g : Group) (w : Words) (hw : w ≡ wordsIn (rowAt t i)) where
+    pub open-ends : w .head ≡ 0 → scanRows (Ended n) (drop i (piecesOf t)) ≡ scanRows (Open n g) (drop i (piecesOf t))
+    open-ends z =
+        scan-step t i (Ended n) h ∙ ap (λ (s : Scan). scanRows s (drop (i + 1) (piecesOf t))) (sym (open-zero n g (wordsIn (rowAt t i)) (rw hw at z)))
+        ∙ sym (scan-step t i (Open n g) h)
+
+    pub open-next : (next : Group) → (w .head ≡ 0 → ⊥) → admitOf g w ≡ Yes next → scanRows (Open (n + 1) next) (drop (i + 1) (piecesOf t)) ≡ scanRows (Open n g) (drop i (piecesOf t))
+    unfolding scanRow
+    open-next next u e = sym (scan-step t i (Open n g) h ∙ rw (sym hw, head-used w u, e))
+
+    pub open-bad : (w .head ≡ 0 → ⊥) → admitOf g w ≡ No → Bad ≡ scanRows (Open n g) (drop i (piecesOf t))
+    unfolding scanRow
+    open-bad u e = sym (scan-step t i (Open n g) h ∙ rw (sym hw, head-used w u, e) (bad-stays (drop (i + 1) (piecesOf t))))
 
 -- ---- what one row can do
 
@@ -66,11 +104,6 @@ abbrev pub Counts : Scan → ℕ → Type 0
 Counts Bad n = ⊥
 Counts (Open m g) n = m ≡ n
 Counts (Ended m) n = m ≡ n
-
-bad-stays : (bs : List (List ℕ)) → scanRows Bad bs ≡ Bad
-unfolding scanRows scanRow
-bad-stays [] = refl
-bad-stays (b ∷ bs) = bad-stays bs
 
 bad-none : (bs : List (List ℕ)) (n : ℕ) → Counts (scanRows Bad bs) n → ⊥
 bad-none bs n h = subst (λ (s : Scan). Counts s n) (bad-stays bs) h

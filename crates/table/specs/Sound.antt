@@ -43,11 +43,6 @@ unfoldable pub scanRows : Scan → List (List ℕ) → Scan
 scanRows s [] = s
 scanRows s (b ∷ bs) = scanRows (scanRow s (wordsIn b)) bs
 
-abbrev pub usedBy : Scan → ℕ
-usedBy Bad = 0
-usedBy (Open n g) = n
-usedBy (Ended n) = n
-
 -- at most so many rows [T1]
 abbrev pub ROWS : ℕ
 ROWS = 4096

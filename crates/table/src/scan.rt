@@ -6,12 +6,14 @@ use crate::rows;
 use row::ROW;
 use row::Words;
 ghost use mathlib.Core.Path.{_≡_};
-ghost use Prim.Native.Nat.{_+_, _*_, _≤_, _<_};
-ghost use lib.ListN.{length};
+ghost use Prim.Native.Nat.{_+_, _*_, _≤_};
+ghost use lib.ListN.{length, drop};
 ghost use Rattle.row.specs.Size.{ROW};
+ghost use Rattle.row.specs.Codec.{wordsIn, isBlank};
+ghost use Rattle.table.specs.Place.{rowAt};
 ghost use Rattle.table.specs.Table.{piecesOf};
 ghost use Rattle.table.specs.Join.{start};
-ghost use Rattle.table.specs.Sound.{ROWS, usedBy, admitOf, scanRow, scanRows, scanOf, soundnessOf};
+ghost use Rattle.table.specs.Sound.{ROWS, admitOf, scanRows, scanOf, soundnessOf};
 
 // What the rows so far say: unsound; all used, so many, the last of this group; or some used and then free ones.
 pub enum Scan {
@@ -39,63 +41,73 @@ fn admit(g: Group, w: Words) -> Joined
     Joined::No
 }
 
-// One row more.
-fn turn(s: Scan, w: Words) -> Scan
-    requires { ⌜ usedBy s < 65536 ⌝ }
-    ensures { λ n. ⌜ n ≡ scanRow s w ⌝ }
+// Whether a row's bytes are all zero. Only compared with zero, its words are read many at a time.
+fn zeros(b: &[u8]) -> bool
+    requires { ⌜ length (now b) ≡ ROW ⌝ }
+    ensures { λ r. ⌜ r ≡ isBlank (wordsIn (now (b .entry))) ⌝ }
 {
-    match s {
-        Scan::Bad => Scan::Bad,
-        Scan::Open { used, group } => {
-            if row::codec::blank(w) {
-                Scan::Ended { used }
-            } else {
-                let j = admit(group, w);
-                match j {
-                    Joined::Yes(g) => Scan::Open {
-                        used: used + 1,
-                        group: g,
-                    },
-                    Joined::No => Scan::Bad,
-                }
-            }
-        }
-        Scan::Ended { used } => {
-            if row::codec::blank(w) {
-                Scan::Ended { used }
-            } else {
-                Scan::Bad
-            }
-        }
-    }
+    (octets::u64_at(b, 0) == 0)
+        & (octets::u64_at(b, 8) == 0)
+        & (octets::u64_at(b, 16) == 0)
+        & (octets::u64_at(b, 24) == 0)
+        & (octets::u64_at(b, 32) == 0)
+        & (octets::u64_at(b, 40) == 0)
+        & (octets::u64_at(b, 48) == 0)
+        & (octets::u64_at(b, 56) == 0)
+        & (octets::u64_at(b, 64) == 0)
+        & (octets::u64_at(b, 72) == 0)
 }
 
+fn free(t: &[u8], i: usize) -> bool
+    requires { ⌜ i * ROW + ROW ≤ length (now t) ⌝ }
+    ensures { λ r. ⌜ r ≡ isBlank (wordsIn (rowAt (now (t .entry)) i)) ⌝ }
+{
+    let a = i * ROW;
+    let e = a + ROW;
+    zeros(&t[a..e])
+}
+
+// After so many used rows: all others are free, or the table is unsound.
+fn ended(t: &[u8], used: usize) -> Scan
+    ensures { λ r. ⌜ r ≡ scanRows (Scan.Ended used) (drop used (piecesOf (now (t .entry)))) ⌝ }
+{
+    let n = t.len() / ROW;
+    let mut i = used;
+    while i < n {
+        if !free(t, i) {
+            return Scan::Bad;
+        }
+        i += 1;
+    }
+    Scan::Ended { used }
+}
+
+// The used rows, up to the first that is free or unsound. A row whose first word is 0 is no used one.
 fn over(t: &[u8]) -> Scan
     requires { ⌜ length (now t) ≤ ROWS * ROW ⌝ }
     ensures { λ r. ⌜ r ≡ scanRows (Scan.Open 0 start) (piecesOf (now (t .entry))) ⌝ }
 {
     let n = t.len() / ROW;
-    let mut s = Scan::Open {
-        used: 0,
-        group: Group {
-            last: 0,
-            live: false,
-            sends: false,
-            worked: false,
-        },
+    let mut g = Group {
+        last: 0,
+        live: false,
+        sends: false,
+        worked: false,
     };
-    if n == 0 {
-        return s;
-    }
-    // A row is judged one turn after its words are read: so the compiler keeps each word whole, and reads it with one load.
-    let mut w = rows::words(t, 0);
-    let mut i = 1;
+    let mut i = 0;
     while i < n {
-        s = turn(s, w);
-        w = rows::words(t, i);
+        let w = rows::words(t, i);
+        if w.head == 0 {
+            return ended(t, i);
+        }
+        let j = admit(g, w);
+        let Joined::Yes(next) = j else {
+            return Scan::Bad;
+        };
+        g = next;
         i += 1;
     }
-    turn(s, w)
+    Scan::Open { used: i, group: g }
 }
 
 fn whole(t: &[u8]) -> Scan

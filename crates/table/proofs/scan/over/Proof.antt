@@ -1,49 +1,55 @@
--- `scan::over` meets its contract. Assumes nothing.
-use mathlib.Core.Path.{_≡_, sym, ap, ap₂, _∙_}
-use Prim.Native.Nat.{_+_, _-_, _≤_, _<_}
-use native.Mathlib.Nat.{lt-of-le-of-lt}
+-- `scan::over` meets its contract: the rest of the rows, from what the used ones so far say, decides what all do. Assumes nothing.
+use mathlib.Core.Path.{_≡_, refl, sym, _∙_}
+use Prim.Native.Nat.{_-_, _≤_}
 use native.Mathlib.Omega.{arith}
+use borrow.Author.Needs.{needs}
 use lib.ListN.{drop}
-use Rattle.row.specs.declared.Words.{Words}
-use Rattle.table.specs.declared.scan.Scan.{Scan}
 use Rattle.table.specs.declared.scan.Scan.the-variants.{Open}
 use Rattle.table.specs.Join.{start}
 use Rattle.table.specs.Table.{piecesOf}
-use Rattle.table.specs.Sound.{usedBy, scanRow, scanRows}
-use Rattle.table.proofs.Scans.{used-grows, scan-step, scan-done}
+use Rattle.table.specs.Sound.{scanRows}
+use Rattle.table.proofs.Scans.{scan-done, open-ends, open-next, open-bad}
 use Rattle.table.proofs.scan.over.Statement.{statement}
 use Rattle.table.proofs.scan.over.Tie as tie
 
 abbrev Inv-loop : tie.InvT-loop
-Inv-loop t n s₀ w₀ i₀ s w i = (1 ≤ i) × ((i ≤ n) × ((usedBy s < i) × (scanRows (scanRow s w) (drop i (piecesOf t)) ≡ scanRows (Open 0 start) (piecesOf t))))
+Inv-loop t n g₀ i₀ g i = (i ≤ n) × (scanRows (Open i g) (drop i (piecesOf t)) ≡ scanRows (Open 0 start) (piecesOf t))
 
 abbrev μ-loop : tie.MeasureT-loop
-μ-loop t n s₀ w₀ i₀ s w i = n - i
+μ-loop t n g₀ i₀ g i = n - i
 
-returns : tie.Need-returns Inv-loop μ-loop
-returns c = sym (scan-done (c .before .before .args .t .now) 0 (Open 0 start) (omega arith))
+loop-holds : tie.Need-loop-holds Inv-loop μ-loop
+loop-holds c = (omega arith, refl)
 
 words-requires : tie.Need-words-requires Inv-loop μ-loop
 words-requires c κs = omega arith
 
-loop-holds : tie.Need-loop-holds Inv-loop μ-loop
-loop-holds c =
-    let t = c .before .before .before .args .t .now in (
-      omega arith,
-      (
-        omega arith,
-        (
-          omega arith,
-          ap (λ (w : Words). scanRows (scanRow (Open 0 start) w) (drop 1 (piecesOf t))) (c .words .ensures) ∙ sym (scan-step t 0 (Open 0 start) (omega arith)),
-        ),
-      ),
-    )
+ended-requires : tie.Need-ended-requires Inv-loop μ-loop
+ended-requires c κs = search needs
 
-turn-requires : tie.Need-turn-requires Inv-loop μ-loop
-turn-requires c κs = omega arith
+returns : tie.Need-returns Inv-loop μ-loop
+returns c =
+    let at = c .before .before .before .before .before in
+    let t = at .before .before .args .t .now in
+    c .ended .ensures
+    ∙ open-ends t (at .loop .i) (c .before .before .before .before .loop-test .taken) (at .loop .i) (at .loop .g) (c .before .before .before .words .result) (c .before .before .before .words .ensures) (c .before .if1 .taken)
+    ∙ at .loop .inv .1
 
-words-requires-2 : tie.Need-words-requires-2 Inv-loop μ-loop
-words-requires-2 c κs = omega arith
+admit-requires : tie.Need-admit-requires Inv-loop μ-loop
+admit-requires c κs = search needs
+
+enum-known-j : tie.Need-enum-known-j Inv-loop μ-loop
+enum-known-j c = search needs
+
+enum-told : tie.Need-enum-told Inv-loop μ-loop
+enum-told c = search needs
+
+returns-2 : tie.Need-returns-2 Inv-loop μ-loop
+returns-2 c =
+    let at = c .before .before .before .before .before .before .before in
+    let t = at .before .before .args .t .now in
+    open-bad t (at .loop .i) (c .before .before .before .before .before .before .loop-test .taken) (at .loop .i) (at .loop .g) (c .before .before .before .before .before .words .result) (c .before .before .before .before .before .words .ensures) (c .before .before .before .if1 .left) (sym (c .before .before .admit .ensures) ∙ c .enum-told .given .1)
+    ∙ at .loop .inv .1
 
 add-i : tie.Need-add-i Inv-loop μ-loop
 add-i c = omega arith
@@ -53,28 +59,17 @@ loop-less c = omega arith
 
 loop-again : tie.Need-loop-again Inv-loop μ-loop
 loop-again c =
-    let at = c .before .before .before in
-    let t = at .before .before .before .before .args .t .now in
-    let i = at .loop .i in
-    let s = scanRow (at .loop .s) (at .loop .w) in
-    let e : c .before .turn .result ≡ s = c .before .turn .ensures in (
+    let at = c .before .before .before .before .before .before .before .before in
+    let t = at .before .before .args .t .now in (
       omega arith,
-      (
-        omega arith,
-        (
-          rw e (lt-of-le-of-lt (used-grows (at .loop .s) (at .loop .w)) (omega arith)),
-          ap₂ (λ (x : Scan) (w : Words). scanRows (scanRow x w) (drop (i + 1) (piecesOf t))) e (c .words2 .ensures) ∙ sym (scan-step t i s (omega arith)) ∙ at .loop .inv .1 .1 .1,
-        ),
-      ),
+      open-next t (at .loop .i) (c .before .before .before .before .before .before .before .loop-test .taken) (at .loop .i) (at .loop .g) (c .before .before .before .before .before .before .words .result) (c .before .before .before .before .before .before .words .ensures) (c .before .j .given .0 .0) (c .before .before .before .before .if1 .left) (sym (c .before .before .before .admit .ensures) ∙ c .before .j .given .1)
+          ∙ at .loop .inv .1,
     )
 
-turn-requires-2 : tie.Need-turn-requires-2 Inv-loop μ-loop
-turn-requires-2 c κs = omega arith
-
-returns-2 : tie.Need-returns-2 Inv-loop μ-loop
-returns-2 c =
-    let at = c .before .before in
-    c .turn2 .ensures ∙ sym (scan-done (at .before .before .before .before .args .t .now) (at .loop .i) (scanRow (at .loop .s) (at .loop .w)) (omega arith)) ∙ at .loop .inv .1 .1 .1
+returns-3 : tie.Need-returns-3 Inv-loop μ-loop
+returns-3 c =
+    let at = c .before in
+    sym (scan-done (at .before .before .args .t .now) (at .loop .i) (Open (at .loop .i) (at .loop .g)) (c .loop-test .left)) ∙ at .loop .inv .1
 
 pub over-spec : {M : Type 1} → statement M
 over-spec =
@@ -82,13 +77,15 @@ over-spec =
     (tie.spec
     Inv-loop
     μ-loop
-    returns
-    words-requires
     loop-holds
-    turn-requires
-    words-requires-2
+    words-requires
+    ended-requires
+    returns
+    admit-requires
+    enum-known-j
+    enum-told
+    returns-2
     add-i
     loop-less
     loop-again
-    turn-requires-2
-    returns-2)
+    returns-3)

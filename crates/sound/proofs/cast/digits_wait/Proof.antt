@@ -1,0 +1,39 @@
+-- `cast::digits_wait` meets its contract. Assumes nothing.
+use native.Mathlib.Omega.{arith}
+use Rattle.sound.proofs.Waiting.{Left, left-start, left-end, left-next, left-stray}
+use Rattle.sound.proofs.cast.digits_wait.Statement.{statement}
+use Rattle.sound.proofs.cast.digits_wait.Tie as tie
+
+abbrev Inv-loop : tie.InvT-loop
+Inv-loop word set w₀ s₀ w s = Left word set w s
+
+abbrev μ-loop : tie.MeasureT-loop
+μ-loop word set w₀ s₀ w s = w
+
+loop-holds : tie.Need-loop-holds Inv-loop μ-loop
+loop-holds c = left-start (c .args .word) (c .args .set) (c .pre)
+
+returns : tie.Need-returns Inv-loop μ-loop
+returns c =
+    let at = c .before .before .loop in
+    let a = c .before .before .before .args in
+    left-stray (a .word) (a .set) (at .w) (at .s) (at .inv) (c .before .loop-test .taken) (c .if1 .taken)
+
+loop-less : tie.Need-loop-less Inv-loop μ-loop
+loop-less c = omega arith
+
+loop-again : tie.Need-loop-again Inv-loop μ-loop
+loop-again c =
+    let at = c .before .before .loop in
+    let a = c .before .before .before .args in
+    left-next (a .word) (a .set) (at .w) (at .s) (at .inv) (c .before .loop-test .taken) (c .if1 .left)
+
+returns-2 : tie.Need-returns-2 Inv-loop μ-loop
+returns-2 c =
+    let at = c .before .loop in
+    let a = c .before .before .args in
+    left-end (a .word) (a .set) (at .w) (at .s) (at .inv) (c .loop-test .left)
+
+pub digits-wait-spec : {M : Type 1} → statement M
+digits-wait-spec =
+    tie.close (tie.spec Inv-loop μ-loop loop-holds returns loop-less loop-again returns-2)
