@@ -2,7 +2,7 @@
 -- Assumes nothing.
 use Prim.Native.Nat.{ℕ, zero, suc, _+_, _-_, _*_, _/_, _%_, _^_, _≤_, _<_, zero-le}
 use mathlib.Core.Path.{_≡_, refl, sym, ap, ap₂, _∙_}
-use mathlib.Core.Bool.{Bool, true, false, cond, _&&_, and-assoc}
+use mathlib.Core.Bool.{Bool, true, false, cond, _&&_, and-assoc, and-true}
 use mathlib.Core.List.{List, [], _∷_}
 use native.Mathlib.Numerals.{add-one}
 use native.Mathlib.Omega.{arith}
@@ -66,6 +66,57 @@ unfolding freeFrom
 free-end w n i h =
     let e : n - i ≡ 0 = omega arith in
     rw e
+
+nest : (a b c d e f g h : Bool) → (a && b && c && d && e && f && g && h) ≡ (a && (b && (c && (d && (e && (f && (g && (h && true))))))))
+nest false b c d e f g h = refl
+nest true false c d e f g h = refl
+nest true true false d e f g h = refl
+nest true true true false e f g h = refl
+nest true true true true false f g h = refl
+nest true true true true true false g h = refl
+nest true true true true true true false h = refl
+nest true true true true true true true h = sym (and-true h)
+
+-- eight of them, one after the other
+pub eight : (bs : List ℕ) (at i : ℕ) → (eqb (be 8 bs (at + 8 * i)) 0 && eqb (be 8 bs (at + 8 * i + 8)) 0 && eqb (be 8 bs (at + 8 * i + 16)) 0 && eqb (be 8 bs (at + 8 * i + 24)) 0 && eqb (be 8 bs (at + 8 * i + 32)) 0 && eqb (be 8 bs (at + 8 * i + 40)) 0 && eqb (be 8 bs (at + 8 * i + 48)) 0 && eqb (be 8 bs (at + 8 * i + 56)) 0) ≡ freeFrom (placeOf 8 at bs) 8 i
+unfolding freeFrom
+eight bs at i =
+    let e1 : at + 8 * i + 8 ≡ at + 8 * (suc i) = omega arith in
+    let e2 : at + 8 * i + 16 ≡ at + 8 * (suc (suc i)) = omega arith in
+    let e3 : at + 8 * i + 24 ≡ at + 8 * (suc (suc (suc i))) = omega arith in
+    let e4 : at + 8 * i + 32 ≡ at + 8 * (suc (suc (suc (suc i)))) = omega arith in
+    let e5 : at + 8 * i + 40 ≡ at + 8 * (suc (suc (suc (suc (suc i))))) = omega arith in
+    let e6 : at + 8 * i + 48 ≡ at + 8 * (suc (suc (suc (suc (suc (suc i)))))) = omega arith in
+    let e7 : at + 8 * i + 56 ≡ at + 8 * (suc (suc (suc (suc (suc (suc (suc i))))))) = omega arith in
+    rw (e1, e2, e3, e4, e5, e6, e7)
+    (nest (eqb (be 8 bs (at + 8 * i)) 0) (eqb (be 8 bs (at + 8 * (suc i))) 0) (eqb (be 8 bs (at + 8 * (suc (suc i)))) 0) (eqb (be 8 bs (at + 8 * (suc (suc (suc i))))) 0) (eqb (be 8 bs (at + 8 * (suc (suc (suc (suc i)))))) 0) (eqb (be 8 bs (at + 8 * (suc (suc (suc (suc (suc i))))))) 0) (eqb (be 8 bs (at + 8 * (suc (suc (suc (suc (suc (suc i)))))))) 0) (eqb (be 8 bs (at + 8 * (suc (suc (suc (suc (suc (suc (suc i))))))))) 0))
+
+-- m of them from i on, and then the others
+pub free-some : (w : ℕ → ℕ) (m r i : ℕ) → freeFrom w (m + r) i ≡ (freeFrom w m i && freeFrom w r (m + i))
+unfolding freeFrom
+free-some w zero r i =
+    let e : 0 + r ≡ r = omega arith in
+    let j : i ≡ 0 + i = omega arith in
+    ap₂ (freeFrom w) e j
+free-some w (suc m) r i =
+    let e : suc m + r ≡ suc (m + r) = omega arith in
+    let j : m + suc i ≡ suc m + i = omega arith in
+    ap (λ (k : ℕ). freeFrom w k i) e
+    ∙ ap (λ (b : Bool). eqb (w i) 0 && b) (free-some w m r (suc i) ∙ ap (λ (k : ℕ). freeFrom w m (suc i) && freeFrom w r k) j)
+    ∙ sym (and-assoc (eqb (w i) 0) (freeFrom w m (suc i)) (freeFrom w r (suc m + i)))
+
+module _ (w : ℕ → ℕ) (n k : ℕ) (h : 8 ≤ n - k) where
+  free-split : freeFrom w (n - k) k ≡ (freeFrom w 8 k && freeFrom w (n - (k + 8)) (k + 8))
+  free-split =
+      let e : n - k ≡ 8 + (n - (k + 8)) = omega arith in
+      let j : 8 + k ≡ k + 8 = omega arith in
+      ap (λ (m : ℕ). freeFrom w m k) e ∙ free-some w 8 (n - (k + 8)) k ∙ ap (λ (m : ℕ). freeFrom w 8 k && freeFrom w (n - (k + 8)) m) j
+
+  pub eight-more : freeFrom w 8 k ≡ true → freeFrom w (n - k) k ≡ freeFrom w (n - (k + 8)) (k + 8)
+  eight-more e = free-split ∙ ap (λ (b : Bool). b && freeFrom w (n - (k + 8)) (k + 8)) e
+
+  pub eight-used : freeFrom w 8 k ≡ false → freeFrom w (n - k) k ≡ false
+  eight-used e = free-split ∙ ap (λ (b : Bool). b && freeFrom w (n - (k + 8)) (k + 8)) e
 
 -- ---- a place of eight bytes is two of four
 
