@@ -120,10 +120,10 @@ fn good_filter(marks: Marks, last: u64, w: u64) -> bool
 }
 
 // Whether one of a pair's two codes is the code.
-fn has_code(w: u64, code: u64) -> bool
-    ensures { λ r. ⌜ r ≡ (eqb (w / 2 ^ 32) code || eqb (w % 2 ^ 32) code) ⌝ }
+fn has_code(a: u64, b: u64, code: u64) -> bool
+    ensures { λ r. ⌜ r ≡ (eqb a code || eqb b code) ⌝ }
 {
-    (w / 4294967296 == code) | (w % 4294967296 == code)
+    (a == code) | (b == code)
 }
 
 // Whether neither code stands in a pair from place i on.
@@ -133,14 +133,15 @@ fn apart(books: &[u8], one: u64, other: u64, i: usize) -> bool
 {
     let mut k = i;
     while k < SPLIT_PLACES {
-        let w = octets::u64_at(books, SPLITS_AT + 8 * k);
-        if w == 0 {
+        let a = octets::u32_at(books, SPLITS_AT + 8 * k);
+        let b = octets::u32_at(books, SPLITS_AT + 8 * k + 4);
+        if (a == 0) & (b == 0) {
             return true;
         }
-        if has_code(w, one) {
+        if has_code(a, b, one) {
             return false;
         }
-        if has_code(w, other) {
+        if has_code(a, b, other) {
             return false;
         }
         k += 1;
