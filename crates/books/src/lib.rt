@@ -26,8 +26,8 @@ const SPLITS_AT: usize = 8200;
 
 const SPLIT_PLACES: usize = 64;
 
-// Whether all places of eight bytes from place i on are free, of n from at.
-fn free(books: &[u8], at: usize, n: usize, i: usize) -> bool
+// Whether the places of eight bytes from place i on are free, of n from at.
+fn few_free(books: &[u8], at: usize, n: usize, i: usize) -> bool
     requires { ⌜ at + 8 * n ≤ length (now books) ⌝ }
     ensures { λ r. ⌜ r ≡ freeFrom (placeOf 8 at (now (books .entry))) (n - i) i ⌝ }
 {
@@ -40,6 +40,37 @@ fn free(books: &[u8], at: usize, n: usize, i: usize) -> bool
         k += 1;
     }
     true
+}
+
+// The same of eight of them, in one look.
+fn eight_free(books: &[u8], at: usize, i: usize) -> bool
+    requires { ⌜ at + 8 * (i + 8) ≤ length (now books) ⌝ }
+    ensures { λ r. ⌜ r ≡ freeFrom (placeOf 8 at (now (books .entry))) 8 i ⌝ }
+{
+    let a = at + 8 * i;
+    (octets::u64_at(books, a) == 0)
+        & (octets::u64_at(books, a + 8) == 0)
+        & (octets::u64_at(books, a + 16) == 0)
+        & (octets::u64_at(books, a + 24) == 0)
+        & (octets::u64_at(books, a + 32) == 0)
+        & (octets::u64_at(books, a + 40) == 0)
+        & (octets::u64_at(books, a + 48) == 0)
+        & (octets::u64_at(books, a + 56) == 0)
+}
+
+// The same of all of them: eight at a time, and then the few that are left.
+fn free(books: &[u8], at: usize, n: usize, i: usize) -> bool
+    requires { ⌜ (at + 8 * n ≤ length (now books)) × (i ≤ n) ⌝ }
+    ensures { λ r. ⌜ r ≡ freeFrom (placeOf 8 at (now (books .entry))) (n - i) i ⌝ }
+{
+    let mut k = i;
+    while 8 <= n - k {
+        if !eight_free(books, at, k) {
+            return false;
+        }
+        k += 8;
+    }
+    few_free(books, at, n, k)
 }
 
 // The same for codes or filters, places of four bytes: two at a time.
@@ -57,10 +88,11 @@ fn free_rows(books: &[u8], at: usize, i: usize) -> bool
     free(books, at, ROW_PLACES / 2, i / 2)
 }
 
+// Six digits, the first and the fourth of them 2 to 9: the last three say 200 or more.
 fn is_code(c: u64) -> bool
     ensures { λ r. ⌜ r ≡ isCode c ⌝ }
 {
-    (200000 <= c) & (c < 1000000) & (2 <= c / 100 % 10)
+    (200000 <= c) & (c < 1000000) & (200 <= c % 1000)
 }
 
 // A code's place, behind the place `last`. [B2]
@@ -88,10 +120,10 @@ fn good_filter(marks: Marks, last: u64, w: u64) -> bool
 }
 
 // Whether one of a pair's two codes is the code.
-fn has_code(w: u64, code: u64) -> bool
-    ensures { λ r. ⌜ r ≡ (eqb (w / 2 ^ 32) code || eqb (w % 2 ^ 32) code) ⌝ }
+fn has_code(a: u64, b: u64, code: u64) -> bool
+    ensures { λ r. ⌜ r ≡ (eqb a code || eqb b code) ⌝ }
 {
-    (w / 4294967296 == code) | (w % 4294967296 == code)
+    (a == code) | (b == code)
 }
 
 // Whether neither code stands in a pair from place i on.
@@ -101,14 +133,15 @@ fn apart(books: &[u8], one: u64, other: u64, i: usize) -> bool
 {
     let mut k = i;
     while k < SPLIT_PLACES {
-        let w = octets::u64_at(books, SPLITS_AT + 8 * k);
-        if w == 0 {
+        let a = octets::u32_at(books, SPLITS_AT + 8 * k);
+        let b = octets::u32_at(books, SPLITS_AT + 8 * k + 4);
+        if (a == 0) & (b == 0) {
             return true;
         }
-        if has_code(w, one) {
+        if has_code(a, b, one) {
             return false;
         }
-        if has_code(w, other) {
+        if has_code(a, b, other) {
             return false;
         }
         k += 1;
@@ -139,15 +172,16 @@ fn good_row(filters: bool, marks: Marks, last: u64, w: u64) -> bool
     good_code(marks, last, w)
 }
 
-// One pass over the filters or the codes: places of four bytes from at.
+// One pass over the filters or the codes: places of four bytes from at. A place is tested one turn after it is read: so the compiler reads it
+// with one load.
 fn sound_rows(filters: bool, marks: Marks, books: &[u8], at: usize) -> bool
-    requires { ⌜ at + 4 * rowPlaces ≤ length (now books) ⌝ }
+    requires { ⌜ at + 4 * rowPlaces + 4 ≤ length (now books) ⌝ }
     ensures { λ r. ⌜ r ≡ scan (rowTest filters marks) (placeOf 4 at (now (books .entry))) rowPlaces 0 0 ⌝ }
 {
     let mut last: u64 = 0;
+    let mut w = octets::u32_at(books, at);
     let mut i: usize = 0;
     while i < ROW_PLACES {
-        let w = octets::u32_at(books, at + 4 * i);
         if w == 0 {
             return free_rows(books, at, i + 1);
         }
@@ -156,6 +190,7 @@ fn sound_rows(filters: bool, marks: Marks, books: &[u8], at: usize) -> bool
         }
         last = w;
         i += 1;
+        w = octets::u32_at(books, at + 4 * i);
     }
     true
 }

@@ -1,0 +1,85 @@
+-- `books::eight_free` meets its contract.
+-- Assumes nothing.
+use borrow.Author.Needs.{needs}
+use Rattle.books.specs.Places.{eight}
+use Rattle.books.proofs.eight_free.Statement.{statement}
+use Rattle.books.proofs.eight_free.Tie as tie
+
+mul-a : tie.Need-mul-a
+mul-a c = search needs
+
+add-a : tie.Need-add-a
+add-a c = search needs
+
+u64-at-requires : tie.Need-u64-at-requires
+u64-at-requires c κs = search needs
+
+add-u64-at : tie.Need-add-u64-at
+add-u64-at c = search needs
+
+u64-at-requires-2 : tie.Need-u64-at-requires-2
+u64-at-requires-2 c κs = search needs
+
+add-u64-at-2 : tie.Need-add-u64-at-2
+add-u64-at-2 c = search needs
+
+u64-at-requires-3 : tie.Need-u64-at-requires-3
+u64-at-requires-3 c κs = search needs
+
+add-u64-at-3 : tie.Need-add-u64-at-3
+add-u64-at-3 c = search needs
+
+u64-at-requires-4 : tie.Need-u64-at-requires-4
+u64-at-requires-4 c κs = search needs
+
+add-u64-at-4 : tie.Need-add-u64-at-4
+add-u64-at-4 c = search needs
+
+u64-at-requires-5 : tie.Need-u64-at-requires-5
+u64-at-requires-5 c κs = search needs
+
+add-u64-at-5 : tie.Need-add-u64-at-5
+add-u64-at-5 c = search needs
+
+u64-at-requires-6 : tie.Need-u64-at-requires-6
+u64-at-requires-6 c κs = search needs
+
+add-u64-at-6 : tie.Need-add-u64-at-6
+add-u64-at-6 c = search needs
+
+u64-at-requires-7 : tie.Need-u64-at-requires-7
+u64-at-requires-7 c κs = search needs
+
+add-u64-at-7 : tie.Need-add-u64-at-7
+add-u64-at-7 c = search needs
+
+u64-at-requires-8 : tie.Need-u64-at-requires-8
+u64-at-requires-8 c κs = search needs
+
+returns : tie.Need-returns
+returns c =
+    let a = c .before .before .before .before .before .before .before .before .before .args in
+    rw (c .before .before .before .before .before .before .before .u64-at .ensures, c .before .before .before .before .before .before .u64-at2 .ensures, c .before .before .before .before .before .u64-at3 .ensures, c .before .before .before .before .u64-at4 .ensures, c .before .before .before .u64-at5 .ensures, c .before .before .u64-at6 .ensures, c .before .u64-at7 .ensures, c .u64-at8 .ensures) (eight (a .books .now) (a .at) (a .i))
+
+pub eight-free-spec : {M : Type 1} → statement M
+eight-free-spec =
+    tie.close
+    (tie.spec
+    mul-a
+    add-a
+    u64-at-requires
+    add-u64-at
+    u64-at-requires-2
+    add-u64-at-2
+    u64-at-requires-3
+    add-u64-at-3
+    u64-at-requires-4
+    add-u64-at-4
+    u64-at-requires-5
+    add-u64-at-5
+    u64-at-requires-6
+    add-u64-at-6
+    u64-at-requires-7
+    add-u64-at-7
+    u64-at-requires-8
+    returns)
