@@ -1,7 +1,7 @@
 // The books as bytes: sound or not, and what they say of codes, pairs and filters. They are only read. [B2, B3, B4, B6]
 ghost use mathlib.Core.Path.{_≡_};
 ghost use mathlib.Core.Bool.{_||_};
-ghost use Prim.Native.Nat.{_+_, _-_, _*_, _/_, _%_, _^_, _≤_};
+ghost use Prim.Native.Nat.{_+_, _-_, _*_, _≤_};
 ghost use lib.Dec.{eqb};
 ghost use lib.ListN.{length};
 ghost use Rattle.systems.specs.Set.{member};

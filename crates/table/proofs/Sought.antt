@@ -1,10 +1,11 @@
 -- Finding in a sound table, said of what the table says. Assumes nothing.
-use mathlib.Core.Path.{_≡_, sym, ap, ap₂, _∙_, subst}
+use mathlib.Core.Path.{_≡_, refl, sym, ap, ap₂, _∙_, subst}
 use mathlib.Core.Bool.{Bool, true, false}
 use mathlib.Core.List.{List, [], _∷_, map}
 use Prim.Native.Nat.{ℕ, suc, _-_, _^_, _≤_, _<_, zero-le, suc-le-suc}
 use native.Mathlib.Nat.{lt-trans}
 use native.Mathlib.Omega.{arith}
+use borrow.Author.Tests.{lt-ltb}
 use lib.Dec.{ltb}
 use lib.ListN.{length, getD, length-map, replicate, List·getD-append}
 use lib.Seq.{ext-getD}
@@ -71,6 +72,15 @@ pub place-le : (k : ℕ) (vs : List Version) → placeIn k vs ≤ length vs
 unfolding placeIn
 place-le k vs = subst (λ (j : ℕ). lowerOf k (keys vs) ≤ j) (length-map vs keyFor) (lower-le k (keys vs))
 
+-- the keys of sound versions have 50 bits
+all-below : (vs : List Version) (k : ℕ) → AllSound vs → 1125899906842624 ≤ k → lowerOf k (keys vs) ≡ length vs
+unfolding lowerOf
+all-below [] k a h = refl
+all-below (v ∷ vs) k a h =
+    let r = sound-room v (a .0) in
+    let l : keyFor v < k = omega (arith, r .small .tn, r .number) in
+    ap (λ (b : Bool). past b (lowerOf k (keys vs))) (lt-ltb (keyFor v) k l) ∙ ap suc (all-below vs k (a .1) h)
+
 module _ (t : List ℕ) (n : ℕ) (s : SoundTable t n) where
   pub sound-good : Good (rowsIn t) (decode t)
   sound-good = table-good (rowsIn t) (decode t) (s .sound)
@@ -87,6 +97,11 @@ module _ (t : List ℕ) (n : ℕ) (s : SoundTable t n) where
   pub sound-place : (k : ℕ) → lowerOf k (keysOf n t) ≡ placeIn k (decode t)
   unfolding placeIn
   sound-place k = ap (lowerOf k) sound-keys
+
+  -- a number that no key reaches is behind all of them
+  pub sound-behind : (k : ℕ) → 1125899906842624 ≤ k → n ≡ placeIn k (decode t)
+  unfolding placeIn
+  sound-behind k h = sym (all-below (decode t) k (sound-good .sound) h ∙ s .count)
 
   -- what `load` reads of a sound table
   pub sound-load : (i : ℕ) (d : Version) → i < n → unpack (rowAt t i) ≡ getD (decode t) i d

@@ -2,7 +2,7 @@
 use model::Id;
 use row::ROW;
 ghost use mathlib.Core.Path.{_≡_};
-ghost use Prim.Native.Nat.{_+_, _*_, _≤_, _<_};
+ghost use Prim.Native.Nat.{_+_, _*_, _/_, _≤_, _<_};
 ghost use lib.ListN.{length};
 ghost use Rattle.row.specs.Size.{ROW};
 ghost use Rattle.row.specs.Layout.{keyOf};
@@ -10,27 +10,29 @@ ghost use Rattle.table.specs.Table.{decode};
 ghost use Rattle.table.specs.Sound.{SoundTable};
 ghost use Rattle.table.specs.Find.{keyAt, keysOf, Rises, lowerOf, placeIn};
 
-// The key of row i: the highest 50 bits of its first word, and nothing else is read.
-fn key(t: &[u8], i: usize) -> u64
+// The first word of row i, whose highest 50 bits are the key; nothing else is read.
+fn first(t: &[u8], i: usize) -> u64
     requires { ⌜ i * ROW + ROW ≤ length (now t) ⌝ }
-    ensures { λ r. ⌜ r ≡ keyAt (now (t .entry)) i ⌝ }
+    ensures { λ r. ⌜ r / 16384 ≡ keyAt (now (t .entry)) i ⌝ }
 {
     let a = i * ROW;
     let e = a + ROW;
-    octets::u64_at(&t[a..e], 0) / 16384
+    octets::u64_at(&t[a..e], 0)
 }
 
-// The place of the first of n rows whose key is at least k, or n.
+// The place of the first of n rows whose key is at least k, or n. The words are compared whole: so each is read with one load.
 fn lower(t: &[u8], n: usize, k: u64) -> usize
     requires { ⌜ n * ROW ≤ length (now t) ⌝ }
     requires { ⌜ Rises (keysOf n (now t)) ⌝ }
+    requires { ⌜ k < 1125899906842624 ⌝ }
     ensures { λ r. ⌜ r ≡ lowerOf k (keysOf n (now (t .entry))) ⌝ }
 {
+    let least = k * 16384;
     let mut lo = 0;
     let mut hi = n;
     while lo < hi {
         let mid = lo + (hi - lo) / 2;
-        if key(t, mid) < k {
+        if first(t, mid) < least {
             lo = mid + 1;
         } else {
             hi = mid;
@@ -39,12 +41,15 @@ fn lower(t: &[u8], n: usize, k: u64) -> usize
     lo
 }
 
-// The place of the first version whose key is at least k, among the n of a sound table.
+// The place of the first version whose key is at least k, among the n of a sound table: behind all of them where k is no key.
 pub fn from_key(t: &[u8], n: usize, k: u64) -> usize
     requires { ⌜ SoundTable (now t) n ⌝ }
     ensures { λ r. ⌜ r ≡ placeIn k (decode (now (t .entry))) ⌝ }
 {
-    lower(t, n, k)
+    if k < 1125899906842624 {
+        return lower(t, n, k);
+    }
+    n
 }
 
 // Where the version of that name is, or would be.

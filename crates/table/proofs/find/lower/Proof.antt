@@ -9,10 +9,13 @@ use Rattle.table.proofs.find.lower.Statement.{statement}
 use Rattle.table.proofs.find.lower.Tie as tie
 
 abbrev Inv-loop : tie.InvT-loop
-Inv-loop t n k lo₀ hi₀ lo hi = (hi ≤ n) × Bracket (keysOf n t) k lo hi
+Inv-loop t n k least lo₀ hi₀ lo hi = (hi ≤ n) × Bracket (keysOf n t) k lo hi
 
 abbrev μ-loop : tie.MeasureT-loop
-μ-loop t n k lo₀ hi₀ lo hi = hi - lo
+μ-loop t n k least lo₀ hi₀ lo hi = hi - lo
+
+mul-least : tie.Need-mul-least Inv-loop μ-loop
+mul-least c = omega arith
 
 loop-holds : tie.Need-loop-holds Inv-loop μ-loop
 loop-holds c =
@@ -26,8 +29,8 @@ sub-mid c = omega arith
 add-mid : tie.Need-add-mid Inv-loop μ-loop
 add-mid c = omega arith
 
-key-requires : tie.Need-key-requires Inv-loop μ-loop
-key-requires c κs = omega arith
+first-requires : tie.Need-first-requires Inv-loop μ-loop
+first-requires c κs = omega arith
 
 add-lo : tie.Need-add-lo Inv-loop μ-loop
 add-lo c = omega arith
@@ -41,7 +44,7 @@ loop-again c =
     let a = at .before .before .args in
     let mid = at .loop .lo + (at .loop .hi - at .loop .lo) / 2 in
     let here : getD (keysOf (a .n) (a .t .now)) mid 0 ≡ keyAt (a .t .now) mid = keys-at (a .n) (a .t .now) mid (omega arith) in
-    (omega arith, bracket-up (keysOf (a .n) (a .t .now)) (a .k) (at .loop .lo) (at .loop .hi) mid (at .before .before .pre .1) (at .loop .inv .1) (omega arith) (omega arith) (omega arith))
+    (omega arith, bracket-up (keysOf (a .n) (a .t .now)) (a .k) (at .loop .lo) (at .loop .hi) mid (at .before .before .pre .1 .0) (at .loop .inv .1) (omega arith) (omega arith) (omega arith))
 
 loop-less-2 : tie.Need-loop-less-2 Inv-loop μ-loop
 loop-less-2 c = omega arith
@@ -52,7 +55,7 @@ loop-again-2 c =
     let a = at .before .before .args in
     let mid = at .loop .lo + (at .loop .hi - at .loop .lo) / 2 in
     let here : getD (keysOf (a .n) (a .t .now)) mid 0 ≡ keyAt (a .t .now) mid = keys-at (a .n) (a .t .now) mid (omega arith) in
-    (omega arith, bracket-down (keysOf (a .n) (a .t .now)) (a .k) (at .loop .lo) (at .loop .hi) mid (at .before .before .pre .1) (at .loop .inv .1) (omega arith) (omega arith) (omega arith))
+    (omega arith, bracket-down (keysOf (a .n) (a .t .now)) (a .k) (at .loop .lo) (at .loop .hi) mid (at .before .before .pre .1 .0) (at .loop .inv .1) (omega arith) (omega arith) (omega arith))
 
 returns : tie.Need-returns Inv-loop μ-loop
 returns c =
@@ -66,10 +69,11 @@ lower-spec =
     (tie.spec
     Inv-loop
     μ-loop
+    mul-least
     loop-holds
     sub-mid
     add-mid
-    key-requires
+    first-requires
     add-lo
     loop-less
     loop-again

@@ -1,4 +1,4 @@
--- `find::key` meets its contract. Assumes nothing.
+-- `find::first` meets its contract. Assumes nothing.
 use mathlib.Core.Path.{ap, _∙_}
 use Prim.Native.Nat.{ℕ, _*_, _/_}
 use native.Mathlib.Nat.{add-sub-cancel-left}
@@ -9,8 +9,8 @@ use Rattle.row.specs.Codec.{wordsIn}
 use Rattle.table.specs.Place.{rowAt}
 use Rattle.table.specs.Find.{keyAt}
 use borrow.Author.Needs.{needs}
-use Rattle.table.proofs.find.key.Statement.{statement}
-use Rattle.table.proofs.find.key.Tie as tie
+use Rattle.table.proofs.find.first.Statement.{statement}
+use Rattle.table.proofs.find.first.Tie as tie
 
 mul-a : tie.Need-mul-a
 mul-a c = search needs
@@ -36,7 +36,7 @@ returns c =
     let a = c .before .before .before .args in
     ap (λ (k : ℕ). k / 16384) (c .u64-at .ensures ∙ ap (λ (k : ℕ). be 8 (take k (drop (a .i * ROW) (a .t .now))) 0) (add-sub-cancel-left (a .i * ROW) ROW))
 
-pub key-spec : {M : Type 1} → statement M
-key-spec =
+pub first-spec : {M : Type 1} → statement M
+first-spec =
     tie.close
     (tie.spec mul-a add-e sub-u64-at part-u64-at-start part-u64-at-end u64-at-requires returns)
