@@ -1,11 +1,22 @@
 // How many rows of a sound table are used, seen from a place near the last of them.
-use crate::scan;
+use crate::rows;
 use row::ROW;
 ghost use mathlib.Core.Path.{_≡_};
-ghost use Prim.Native.Nat.{_≤_};
+ghost use Prim.Native.Nat.{_+_, _*_, _≤_, _<_};
 ghost use lib.ListN.{length};
+ghost use Rattle.row.specs.Size.{ROW};
+ghost use Rattle.row.specs.Codec.{wordsIn, isBlank};
+ghost use Rattle.table.specs.Place.{rowAt};
 ghost use Rattle.table.specs.Table.{decode};
 ghost use Rattle.table.specs.Sound.{SoundTable, rowsIn};
+
+fn free(t: &[u8], i: usize) -> bool
+    requires { ⌜ i * ROW + ROW ≤ length (now t) ⌝ }
+    ensures { λ r. ⌜ r ≡ isBlank (wordsIn (rowAt (now (t .entry)) i)) ⌝ }
+{
+    let w = rows::words(t, i);
+    row::codec::blank(w)
+}
 
 // The first free row from a place on, or the number of rows.
 fn upward(t: &[u8], from: usize) -> usize
@@ -15,7 +26,7 @@ fn upward(t: &[u8], from: usize) -> usize
     let rows = t.len() / ROW;
     let mut n = from;
     while n < rows {
-        if scan::free(t, n) {
+        if free(t, n) {
             return n;
         }
         n += 1;
@@ -30,7 +41,7 @@ fn downward(t: &[u8], from: usize) -> usize
 {
     let mut n = from;
     while 0 < n {
-        if !scan::free(t, n - 1) {
+        if !free(t, n - 1) {
             return n;
         }
         n -= 1;

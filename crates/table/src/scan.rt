@@ -58,8 +58,7 @@ fn zeros(b: &[u8]) -> bool
         & (octets::u64_at(b, 72) == 0)
 }
 
-// Whether a row is free.
-pub fn free(t: &[u8], i: usize) -> bool
+fn free(t: &[u8], i: usize) -> bool
     requires { ⌜ i * ROW + ROW ≤ length (now t) ⌝ }
     ensures { λ r. ⌜ r ≡ isBlank (wordsIn (rowAt (now (t .entry)) i)) ⌝ }
 {
