@@ -68,10 +68,10 @@ pub fn put_marked(table: &mut [u8], n: usize, i: usize, w: Version, tray: &mut [
 fn replaced(w: Version, lives: Seen) -> Seen
     ensures { λ r. ⌜ r ≡ replacedBy w lives ⌝ }
 {
-    if rules::cast::is_open(w) {
+    if broadcast::cast::is_open(w) {
         return Seen::Nobody;
     }
-    if rules::cast::takes_over(w) {
+    if broadcast::cast::takes_over(w) {
         return lives;
     }
     Seen::Nobody
@@ -83,11 +83,11 @@ pub fn settle(table: &mut [u8], n: usize, i: usize, w: Version, lives: Seen)
     requires { ⌜ Settling (decode (now table)) n i w lives ⌝ }
     ensures { λ _. ⌜ now (table .exit) ≡ encode (changes (put (settled w) ∷ settles w (othersOf (w .id) (decode (now (table .entry))))) (decode (now (table .entry)))) (rowsIn (now (table .entry))) ⌝ }
 {
-    let s = rules::cast::settled(w);
+    let s = broadcast::cast::settled(w);
     let over = replaced(w, lives);
     match over {
         Seen::One(j, x) => {
-            let old = rules::cast::retired(w.stamp, x);
+            let old = broadcast::cast::retired(w.stamp, x);
             table::change::put_two(table, n, i, s, j, old);
         }
         Seen::Nobody => {
@@ -128,9 +128,9 @@ pub fn put_answered(
     requires { ⌜ Answerable most e v × Settling (decode (now table)) n i (heard most e v) lives × (64 ≤ placesIn (now tray)) ⌝ }
     ensures { λ r. ⌜ Acted (answers most e v (othersOf (v .id) (decode (now (table .entry))))) (now (table .entry)) (now (tray .entry)) (now (table .exit)) (now (tray .exit)) r ⌝ }
 {
-    let p = rules::cast::answering(e);
-    let again = rules::cast::again(most, e, v.cast);
-    let w = rules::cast::heard(most, e, v);
+    let p = broadcast::cast::answering(e);
+    let again = broadcast::cast::again(most, e, v.cast);
+    let w = broadcast::cast::heard(most, e, v);
     settle(table, n, i, w, lives);
     telling::answered(tray, again, p, v, w)
 }
@@ -151,11 +151,11 @@ fn put_window(table: &mut [u8], n: usize, i: usize, e: Event, v: Version, tray: 
     requires { ⌜ Standing (decode (now table)) n i v (windowRuns e v) × (64 ≤ placesIn (now tray)) ⌝ }
     ensures { λ r. ⌜ Acted (windowRuns e v) (now (table .entry)) (now (tray .entry)) (now (table .exit)) (now (tray .exit)) r ⌝ }
 {
-    if rules::sides::window_marks(v) {
-        let w = rules::sides::window_marked(e, v);
+    if sides::window_marks(v) {
+        let w = sides::window_marked(e, v);
         return put_marked(table, n, i, w, tray);
     }
-    let w = rules::sides::window_turned(e, v);
+    let w = sides::window_turned(e, v);
     put_turned(table, n, i, w, tray)
 }
 
@@ -176,7 +176,7 @@ fn broadcast(
     ensures { λ r. ⌜ Acted (broadcasts (decodeBooks marks (now (books .entry))) e v (othersOf (v .id) (decode (now (table .entry))))) (now (table .entry)) (now (tray .entry)) (now (table .exit)) (now (tray .exit)) r ⌝ }
 {
     let s = selection::selected(marks, books, v.id.tn.0 / 10000);
-    let w = rules::cast::opened(s, e, v);
+    let w = broadcast::cast::opened(s, e, v);
     put_broadcast(table, n, i, w, lives, tray)
 }
 
@@ -203,19 +203,19 @@ pub fn manage(
     ensures { λ r. ⌜ Acted (manages (decodeBooks marks (now (books .entry))) e v (othersOf (v .id) (decode (now (table .entry))))) (now (table .entry)) (now (tray .entry)) (now (table .exit)) (now (tray .exit)) r ⌝ }
 {
     if is_modify(e.kind) {
-        let w = rules::sides::modified(e, v);
+        let w = sides::modified(e, v);
         return put_restated(table, n, i, v, w, tray);
     }
     if e.kind == 6 {
-        let w = rules::sides::cancelled(e, v);
+        let w = sides::cancelled(e, v);
         return put_turned(table, n, i, w, tray);
     }
     if e.kind == 7 {
-        let w = rules::sides::acknowledged(e, v);
+        let w = sides::acknowledged(e, v);
         return put_turned(table, n, i, w, tray);
     }
     if e.kind == 8 {
-        let w = rules::sides::resolved(e, v);
+        let w = sides::resolved(e, v);
         return put_turned(table, n, i, w, tray);
     }
     if e.kind == 13 {
@@ -238,11 +238,11 @@ pub fn created(table: &mut [u8], n: usize, e: Event, f: Facts, tray: &mut [u8]) 
     let worked = f.worked;
     match worked {
         Seen::One(i, v) => {
-            let w = rules::sides::concurred(e, v);
+            let w = sides::concurred(e, v);
             put_restated(table, n, i, v, w, tray)
         }
         Seen::Nobody => {
-            let w = rules::sides::fresh(e, all.newest + 1);
+            let w = sides::fresh(e, all.newest + 1);
             add_fresh(table, n, w, tray)
         }
     }

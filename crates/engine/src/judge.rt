@@ -90,7 +90,7 @@ fn unfit(e: Event, worked: Seen) -> bool
     ensures { λ r. ⌜ r ≡ holds (theOne worked) (λ v. not (fits e v)) ⌝ }
 {
     match worked {
-        Seen::One(_, v) => !rules::sides::fits(e, v),
+        Seen::One(_, v) => !sides::fits(e, v),
         Seen::Nobody => false,
     }
 }
@@ -111,7 +111,7 @@ pub fn create(e: Event, absent: bool, owner: u8, f: Facts, free: bool) -> Outcom
     let live = all.live;
     let worked = f.worked;
     let holder = current(owner, live);
-    let old = rules::sides::old_in(e);
+    let old = sides::old_in(e);
     let misfit = unfit(e, worked);
     let fresh = nobody(worked);
     create_by(
@@ -153,7 +153,7 @@ fn answer_by(absent: bool, unawaited: bool, early: bool) -> Outcome
 pub fn answer(e: Event, absent: bool, v: Version) -> Outcome
     ensures { λ r. ⌜ r ≡ answerFor e absent v ⌝ }
 {
-    let waits = rules::cast::awaited(e, v);
+    let waits = broadcast::cast::awaited(e, v);
     answer_by(absent, !waits, e.time < v.cast.start)
 }
 
@@ -225,9 +225,9 @@ fn idle(e: Event, v: Version) -> bool
     ensures { λ r. ⌜ r ≡ idle e v ⌝ }
 {
     if e.kind == 7 {
-        return rules::sides::own_cancel(e, v);
+        return sides::own_cancel(e, v);
     }
-    let spent = rules::sides::window_spent(v);
+    let spent = sides::window_spent(v);
     (e.kind == 13) & spent
 }
 
@@ -236,7 +236,7 @@ pub fn other(e: Event, absent: bool, f: Facts, v: Version) -> Outcome
     ensures { λ r. ⌜ r ≡ otherFor e absent f v ⌝ }
 {
     let all = f.all;
-    let standing = rules::sides::standing_of(e, v);
+    let standing = sides::standing_of(e, v);
     let entry = model::grid::grid(v.status, e.kind, standing);
     let finer = unready(e, v);
     let taken = busy(e, f, v);
