@@ -38,12 +38,12 @@ use Rattle.table.specs.declared.survey.Facts.{Facts}
 use Rattle.table.specs.declared.survey.Seen.{Seen}
 use Rattle.table.specs.declared.survey.Seen.the-variants.{Nobody, One}
 use Rattle.telling.specs.Telling.{Tellable}
-use Rattle.engine.specs.Act.{Answerable, Settling, Standing, othersOf}
+use Rattle.act.specs.Act.{Answerable, Settling, Standing, othersOf}
 use Rattle.engine.specs.Event.{givenTo}
-use Rattle.engine.specs.Judged.{absentIn, unknownBy, answerFor}
-use Rattle.engine.proofs.Fits.{row-tellable}
-use Rattle.engine.proofs.Judging.{answer-judged, unknown-judged}
-use Rattle.engine.proofs.Manages.{put-fit, tail-of}
+use Rattle.judge.specs.Judged.{absentIn, unknownBy, answerFor}
+use Rattle.act.proofs.Fits.{row-tellable}
+use Rattle.judge.proofs.Judging.{answer-judged, unknown-judged}
+use Rattle.act.proofs.Manages.{put-fit, tail-of}
 use Rattle.engine.proofs.Deciding.{ground, rule-rows}
 use Rattle.model.specs.declared.Id.{Id}
 use Rattle.model.specs.declared.Event.{Event}

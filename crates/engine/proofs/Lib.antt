@@ -1,7 +1,3 @@
-pub mod Judging
-pub mod Fits
-pub mod Manages
-pub mod Creating
 pub mod Deciding
 pub mod Answering
 pub mod Others

@@ -31,11 +31,11 @@ use Rattle.table.specs.Survey.{Surveyed}
 use Rattle.table.specs.declared.survey.Facts.{Facts}
 use Rattle.table.specs.declared.survey.Seen.the-variants.{One}
 use Rattle.telling.specs.Telling.{Tellable}
-use Rattle.engine.specs.Act.{Manageable, othersOf}
+use Rattle.act.specs.Act.{Manageable, othersOf}
 use Rattle.engine.specs.Event.{givenTo}
-use Rattle.engine.specs.Judged.{absentIn, otherFor}
-use Rattle.engine.proofs.Fits.{row-small, row-tellable}
-use Rattle.engine.proofs.Judging.{other-judged}
+use Rattle.judge.specs.Judged.{absentIn, otherFor}
+use Rattle.act.proofs.Fits.{row-small, row-tellable}
+use Rattle.judge.proofs.Judging.{other-judged}
 use Rattle.engine.proofs.Deciding.{rule-rows}
 use Rattle.engine.proofs.Answering.{asked-found, asked-name, asked-place, asked-stands, asked-lives, asked-row}
 use Rattle.model.specs.declared.Id.{Id}

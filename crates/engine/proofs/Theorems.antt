@@ -16,7 +16,7 @@ use Rattle.engine.specs.declared.event.Answer.{Answer}
 use Rattle.engine.specs.Event.{Did, tableAfter}
 use Rattle.engine.specs.Step.{resultOf}
 use Rattle.engine.specs.Demands.{ByteDemand3}
-use Rattle.engine.proofs.Judging.{zero-done, other-refused}
+use Rattle.judge.proofs.Judging.{zero-done, other-refused}
 use Rattle.engine.proofs.Keeping.{refused-silent, result-few, usedAfter, done-scanned}
 use Rattle.engine.proofs.Bytewise.{byte-reordering}
 

@@ -1,5 +1,3 @@
-pub mod Judged
-pub mod Act
 pub mod Event
 pub mod Step
 pub mod Demands

@@ -1,6 +1,4 @@
 // One event on a sound table: judged, and where nothing refuses it, done.
-use crate::act;
-use crate::judge;
 use model::Event;
 use model::Id;
 use model::Marks;

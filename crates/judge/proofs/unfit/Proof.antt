@@ -1,0 +1,21 @@
+use borrow.Author.Needs.{needs}
+use Rattle.judge.proofs.unfit.Statement.{statement}
+use Rattle.judge.proofs.unfit.Tie as tie
+
+enum-known-worked : tie.Need-enum-known-worked
+enum-known-worked c = search needs
+
+fits-requires : tie.Need-fits-requires
+fits-requires c κs = search needs
+
+enum-told : tie.Need-enum-told
+enum-told c = search needs
+
+returns : tie.Need-returns
+returns c = rw (c .before .before .worked .given .1, c .fits2 .ensures)
+
+returns-2 : tie.Need-returns-2
+returns-2 c = search needs
+
+pub unfit-spec : {M : Type 1} → statement M
+unfit-spec = tie.close (tie.spec enum-known-worked fits-requires enum-told returns returns-2)

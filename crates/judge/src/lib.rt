@@ -1,0 +1,252 @@
+// What an event gets: the tests of its kind in document 01's order.
+use model::Event;
+use model::Marks;
+use model::Outcome;
+use model::Version;
+use table::survey::Facts;
+use table::survey::Seen;
+ghost use mathlib.Core.Path.{_≡_};
+ghost use mathlib.Core.Bool.{true, cond, not, _&&_, _||_};
+ghost use mathlib.Core.List.{[], _∷_};
+ghost use Prim.Native.Nat.{_<_};
+ghost use lib.Dec.{eqb, ltb, leb};
+ghost use Rattle.model.specs.Basics.{among, holds, isNone};
+ghost use Rattle.model.specs.Outcomes.{isDone};
+ghost use Rattle.model.specs.Record.{isBroadcast};
+ghost use Rattle.model.specs.Standing.{isGridKind, unready, lacksStanding, wrongStatus};
+ghost use Rattle.model.specs.Creates.{currentOr, fits};
+ghost use Rattle.model.specs.Answers.{awaited};
+ghost use Rattle.model.specs.Refusals.{beforeStart, beforeDue, idle};
+ghost use Rattle.table.specs.Survey.{theOne};
+ghost use Rattle.judge.specs.Judged.{missingIn, absentIn, createBy, createFor, unknownBy, answerBy, answerFor, otherBy, busyFor, otherFor};
+
+// ---- sender and other
+
+fn missing(m: Marks, p: u8) -> bool
+    ensures { λ r. ⌜ r ≡ missingIn m p ⌝ }
+{
+    let here = systems::has(m.present, p);
+    (p != 0) & !here
+}
+
+pub fn absent(m: Marks, e: Event) -> bool
+    ensures { λ r. ⌜ r ≡ absentIn m e ⌝ }
+{
+    missing(m, e.sender) | missing(m, e.other)
+}
+
+// ---- creates
+
+fn create_by(
+    absent: bool,
+    unlisted: bool,
+    busy: bool,
+    early: bool,
+    not_current: bool,
+    unfit: bool,
+    exhausted: bool,
+    full: bool,
+) -> Outcome
+    ensures { λ r. ⌜ r ≡ createBy absent unlisted busy early «not_current» unfit exhausted full ⌝ }
+{
+    if absent {
+        return Outcome::Absent;
+    }
+    if unlisted {
+        return Outcome::Unlisted;
+    }
+    if busy {
+        return Outcome::Busy;
+    }
+    if early {
+        return Outcome::Early;
+    }
+    if not_current {
+        return Outcome::NotCurrent;
+    }
+    if unfit {
+        return Outcome::Unfit;
+    }
+    if exhausted {
+        return Outcome::Exhausted;
+    }
+    if full {
+        return Outcome::Full;
+    }
+    Outcome::Done
+}
+
+// The live version's new provider, else the code's owner.
+fn current(owner: u8, live: Seen) -> u8
+    ensures { λ r. ⌜ r ≡ currentOr owner (theOne live) ⌝ }
+{
+    match live {
+        Seen::One(_, v) => v.new.provider,
+        Seen::Nobody => owner,
+    }
+}
+
+fn unfit(e: Event, worked: Seen) -> bool
+    ensures { λ r. ⌜ r ≡ holds (theOne worked) (λ v. not (fits e v)) ⌝ }
+{
+    match worked {
+        Seen::One(_, v) => !sides::fits(e, v),
+        Seen::Nobody => false,
+    }
+}
+
+fn nobody(s: Seen) -> bool
+    ensures { λ r. ⌜ r ≡ isNone (theOne s) ⌝ }
+{
+    match s {
+        Seen::One(_, _) => false,
+        Seen::Nobody => true,
+    }
+}
+
+pub fn create(e: Event, absent: bool, owner: u8, f: Facts, free: bool) -> Outcome
+    ensures { λ r. ⌜ r ≡ createFor e absent owner f free ⌝ }
+{
+    let all = f.all;
+    let live = all.live;
+    let worked = f.worked;
+    let holder = current(owner, live);
+    let old = sides::old_in(e);
+    let misfit = unfit(e, worked);
+    let fresh = nobody(worked);
+    create_by(
+        absent,
+        owner == 0,
+        all.sends,
+        e.time < all.stamp,
+        old != holder,
+        misfit,
+        fresh & (65535 <= all.newest),
+        fresh & !free,
+    )
+}
+
+// ---- kinds 11 and 12
+
+pub fn unknown(absent: bool) -> Outcome
+    ensures { λ r. ⌜ r ≡ unknownBy absent ⌝ }
+{
+    if absent {
+        Outcome::Absent
+    } else {
+        Outcome::Unknown
+    }
+}
+
+fn answer_by(absent: bool, unawaited: bool, early: bool) -> Outcome
+    ensures { λ r. ⌜ r ≡ answerBy absent unawaited early ⌝ }
+{
+    if absent {
+        return Outcome::Absent;
+    }
+    if unawaited {
+        return Outcome::Unawaited;
+    }
+    if early { Outcome::Early } else { Outcome::Done }
+}
+
+pub fn answer(e: Event, absent: bool, v: Version) -> Outcome
+    ensures { λ r. ⌜ r ≡ answerFor e absent v ⌝ }
+{
+    let waits = broadcast::cast::awaited(e, v);
+    answer_by(absent, !waits, e.time < v.cast.start)
+}
+
+// ---- all others
+
+fn other_by(
+    absent: bool,
+    standless: bool,
+    misplaced: bool,
+    busy: bool,
+    early: bool,
+    idle: bool,
+) -> Outcome
+    ensures { λ r. ⌜ r ≡ otherBy absent standless misplaced busy early idle ⌝ }
+{
+    if absent {
+        return Outcome::Absent;
+    }
+    if standless {
+        return Outcome::Standless;
+    }
+    if misplaced {
+        return Outcome::Misplaced;
+    }
+    if busy {
+        return Outcome::Busy;
+    }
+    if early {
+        return Outcome::Early;
+    }
+    if idle {
+        Outcome::Unawaited
+    } else {
+        Outcome::Done
+    }
+}
+
+// The finer conditions that add 7.
+fn unready(e: Event, v: Version) -> bool
+    ensures { λ r. ⌜ r ≡ unready e v ⌝ }
+{
+    if e.kind == 5 {
+        return !(v.old.created | v.window);
+    }
+    if (e.kind == 9) | (e.kind == 10) {
+        return v.cast.failed != 0;
+    }
+    (e.kind == 14) & (v.status == 6) & (v.cast.failed == 0)
+}
+
+pub fn is_broadcast(kind: u8) -> bool
+    ensures { λ r. ⌜ r ≡ isBroadcast kind ⌝ }
+{
+    (kind == 5) | ((kind == 9) | ((kind == 10) | (kind == 14)))
+}
+
+fn busy(e: Event, f: Facts, v: Version) -> bool
+    ensures { λ r. ⌜ r ≡ busyFor e f v ⌝ }
+{
+    let all = f.all;
+    let rest = f.rest;
+    if is_broadcast(e.kind) {
+        return rest.sends | ((e.kind == 14) & (v.status == 4) & (v.id.number < all.newest));
+    }
+    (e.kind == 15) & (all.newest <= v.id.number)
+}
+
+fn idle(e: Event, v: Version) -> bool
+    ensures { λ r. ⌜ r ≡ idle e v ⌝ }
+{
+    if e.kind == 7 {
+        return sides::own_cancel(e, v);
+    }
+    let spent = sides::window_spent(v);
+    (e.kind == 13) & spent
+}
+
+pub fn other(e: Event, absent: bool, f: Facts, v: Version) -> Outcome
+    requires { ⌜ (v .status < 9) × (isGridKind (e .kind) ≡ true) ⌝ }
+    ensures { λ r. ⌜ r ≡ otherFor e absent f v ⌝ }
+{
+    let all = f.all;
+    let standing = sides::standing_of(e, v);
+    let entry = model::grid::grid(v.status, e.kind, standing);
+    let finer = unready(e, v);
+    let taken = busy(e, f, v);
+    let spent = idle(e, v);
+    other_by(
+        absent,
+        entry == 6,
+        (entry == 7) | finer,
+        taken,
+        (e.time < all.stamp) | ((e.kind == 5) & (e.time < v.new.due)),
+        spent,
+    )
+}
