@@ -1,5 +1,4 @@
 pub mod Spans
-pub mod KindCases
 pub mod Inverse
 pub mod Codec
 pub mod Theorems

@@ -7,7 +7,6 @@ use model::Reading;
 use words::pack;
 use words::unpack;
 
-mod kinds;
 mod words;
 
 // The fields of a record of 24 bytes that is well formed.

@@ -1,7 +1,7 @@
 use Rattle.model.specs.Record.{wellFormed}
 use borrow.Author.Needs.{needs}
-use Rattle.record.proofs.kinds.well_formed.Statement.{statement}
-use Rattle.record.proofs.kinds.well_formed.Tie as tie
+use Rattle.kinds.proofs.well_formed.Statement.{statement}
+use Rattle.kinds.proofs.well_formed.Tie as tie
 
 fits-bits-requires : tie.Need-fits-bits-requires
 fits-bits-requires c κs = search needs

@@ -1,6 +1,6 @@
 use borrow.Author.Needs.{needs}
-use Rattle.record.proofs.kinds.old_modifies.Statement.{statement}
-use Rattle.record.proofs.kinds.old_modifies.Tie as tie
+use Rattle.kinds.proofs.old_modifies.Statement.{statement}
+use Rattle.kinds.proofs.old_modifies.Tie as tie
 
 authorizes-requires : tie.Need-authorizes-requires
 authorizes-requires c κs = search needs

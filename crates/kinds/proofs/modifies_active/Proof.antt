@@ -1,6 +1,6 @@
 use borrow.Author.Needs.{needs}
-use Rattle.record.proofs.kinds.modifies_active.Statement.{statement}
-use Rattle.record.proofs.kinds.modifies_active.Tie as tie
+use Rattle.kinds.proofs.modifies_active.Statement.{statement}
+use Rattle.kinds.proofs.modifies_active.Tie as tie
 
 is-lrn-requires : tie.Need-is-lrn-requires
 is-lrn-requires c κs = search needs

@@ -2,10 +2,10 @@ use mathlib.Core.Path.{_≡_, _∙_, sym}
 use mathlib.Core.Logic.{⊎-elim}
 use native.Mathlib.Omega.{arith}
 use Rattle.model.specs.Record.{kindFits}
-use Rattle.record.proofs.KindCases.{above, plain}
+use Rattle.kinds.proofs.KindCases.{above, plain}
 use borrow.Author.Needs.{needs}
-use Rattle.record.proofs.kinds.kind_fits.Statement.{statement}
-use Rattle.record.proofs.kinds.kind_fits.Tie as tie
+use Rattle.kinds.proofs.kind_fits.Statement.{statement}
+use Rattle.kinds.proofs.kind_fits.Tie as tie
 
 new-creates-requires : tie.Need-new-creates-requires
 new-creates-requires c κs = search needs

@@ -1,6 +1,6 @@
 use borrow.Author.Needs.{needs}
-use Rattle.record.proofs.kinds.new_modifies.Statement.{statement}
-use Rattle.record.proofs.kinds.new_modifies.Tie as tie
+use Rattle.kinds.proofs.new_modifies.Statement.{statement}
+use Rattle.kinds.proofs.new_modifies.Tie as tie
 
 is-lrn-requires : tie.Need-is-lrn-requires
 is-lrn-requires c κs = search needs

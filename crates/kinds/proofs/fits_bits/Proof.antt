@@ -5,8 +5,8 @@ use Prim.Native.Nat.{_<_}
 use borrow.Author.Needs.{needs}
 use borrow.Author.Tests.{lt-ltb}
 use Rattle.model.specs.Record.{fitsBits}
-use Rattle.record.proofs.kinds.fits_bits.Statement.{statement}
-use Rattle.record.proofs.kinds.fits_bits.Tie as tie
+use Rattle.kinds.proofs.fits_bits.Statement.{statement}
+use Rattle.kinds.proofs.fits_bits.Tie as tie
 
 returns : tie.Need-returns
 unfolding fitsBits
