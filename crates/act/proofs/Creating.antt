@@ -16,7 +16,7 @@ use Rattle.model.proofs.Lists.{head-of}
 use Rattle.model.proofs.SoundRows.{Row}
 use Rattle.model.proofs.SoundLaws.{Brings}
 use Rattle.table.specs.Change.{Fresh}
-use Rattle.table.specs.Sound.{itself}
+use Rattle.scan.specs.Sound.{itself}
 use Rattle.table.specs.Survey.{theOne, Stands, versionAt}
 use Rattle.table.specs.declared.survey.Facts.{Facts}
 use Rattle.table.specs.declared.survey.Seen.{Seen}

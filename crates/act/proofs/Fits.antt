@@ -17,8 +17,8 @@ use Rattle.model.proofs.SoundLaws.{Brings}
 use Rattle.row.specs.Layout.{Small}
 use Rattle.row.proofs.Rooms.{sound-room}
 use Rattle.table.specs.Change.{Over}
-use Rattle.table.specs.Table.{decode, encode}
-use Rattle.table.specs.Sound.{itself, rowsIn, SoundTable}
+use Rattle.rows.specs.Table.{decode, encode}
+use Rattle.scan.specs.Sound.{itself, rowsIn, SoundTable}
 use Rattle.table.specs.Survey.{Found, Stands, theOne, versionAt}
 use Rattle.table.specs.declared.survey.Seen.{Seen}
 use Rattle.table.specs.declared.survey.Seen.the-variants.{Nobody, One}

@@ -25,8 +25,8 @@ use Rattle.model.proofs.Replies.{settled-id}
 use Rattle.model.proofs.SoundRows.{Row}
 use Rattle.model.proofs.SoundLaws.{Brings}
 use Rattle.books.specs.Packed.{decodeBooks}
-use Rattle.table.specs.Table.{decode, encode}
-use Rattle.table.specs.Sound.{rowsIn}
+use Rattle.rows.specs.Table.{decode, encode}
+use Rattle.scan.specs.Sound.{rowsIn}
 use Rattle.table.specs.Survey.{versionAt}
 use Rattle.table.specs.declared.survey.Seen.{Seen}
 use Rattle.tray.specs.Tray.{putAll}

@@ -22,8 +22,8 @@ use Rattle.broadcast.specs.Bounds.{Waits}
 use Rattle.model.specs.declared.Marks.{Marks}
 use Rattle.model.proofs.SoundRows.{Row}
 use Rattle.model.proofs.SoundLaws.{Brings}
-use Rattle.table.specs.Table.{decode, encode}
-use Rattle.table.specs.Sound.{rowsIn, itself}
+use Rattle.rows.specs.Table.{decode, encode}
+use Rattle.scan.specs.Sound.{rowsIn, itself}
 use Rattle.table.specs.Survey.{Found, Surveyed, theOne, versionAt}
 use Rattle.table.specs.declared.survey.Seen.{Seen}
 use Rattle.table.specs.declared.survey.Seen.the-variants.{Nobody, One}

@@ -14,10 +14,10 @@ use borrow.Author.Tests.{lt-leb, le-leb}
 use Rattle.model.specs.Given.{Result}
 use Rattle.providers.specs.declared.Listed.{Listed}
 use Rattle.books.specs.Packed.{soundBytes}
-use Rattle.table.specs.Chunks.{chunks}
-use Rattle.table.proofs.Pieces.{chunks-length, getD-chunks}
-use Rattle.table.specs.Sound.{SoundTable, soundnessOf}
-use Rattle.table.specs.declared.scan.Soundness.the-variants.{Sound}
+use Rattle.rows.specs.Chunks.{chunks}
+use Rattle.rows.proofs.Pieces.{chunks-length, getD-chunks}
+use Rattle.scan.specs.Sound.{SoundTable, soundnessOf}
+use Rattle.scan.specs.declared.Soundness.the-variants.{Sound}
 use Rattle.tray.specs.Tray.{placesIn}
 use Rattle.engine.specs.Step.{fitting}
 use Rattle.engine.proofs.Keeping.{result-few}

@@ -11,9 +11,9 @@ use borrow.Author.Tests.{eq-eqb, ne-eqb, le-leb, lt-leb}
 use Rattle.model.proofs.Lists.{clash}
 use Rattle.providers.specs.declared.Listed.{Listed}
 use Rattle.books.specs.Packed.{soundBytes}
-use Rattle.table.specs.Sound.{soundnessOf}
-use Rattle.table.specs.declared.scan.Soundness.{Soundness}
-use Rattle.table.specs.declared.scan.Soundness.the-variants.{Unsound, Sound}
+use Rattle.scan.specs.Sound.{soundnessOf}
+use Rattle.scan.specs.declared.Soundness.{Soundness}
+use Rattle.scan.specs.declared.Soundness.the-variants.{Unsound, Sound}
 use Rattle.tray.specs.Tray.{placesIn}
 use Rattle.engine.specs.Step.{formed, fitting}
 use Rattle.batch.specs.declared.Ran.{Ran}

@@ -10,11 +10,11 @@ use borrow.Author.Tests.{ne-eqb}
 use Rattle.octets.specs.Octets.{Bytes}
 use Rattle.model.specs.Step.{PLACES}
 use Rattle.providers.specs.declared.Listed.{Listed}
-use Rattle.table.specs.Table.{decode}
-use Rattle.table.specs.Sound.{SoundTable, soundnessOf}
-use Rattle.table.specs.declared.scan.Soundness.{Soundness}
-use Rattle.table.specs.declared.scan.Soundness.the-variants.{Unsound, Sound}
-use Rattle.table.proofs.Meant.{sound-says}
+use Rattle.rows.specs.Table.{decode}
+use Rattle.scan.specs.Sound.{SoundTable, soundnessOf}
+use Rattle.scan.specs.declared.Soundness.{Soundness}
+use Rattle.scan.specs.declared.Soundness.the-variants.{Unsound, Sound}
+use Rattle.scan.proofs.Meant.{sound-says}
 use Rattle.tray.specs.Tray.{placesIn}
 use Rattle.engine.specs.Step.{isTable}
 use Rattle.engine.proofs.Keeping.{Again, again}

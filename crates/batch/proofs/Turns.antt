@@ -12,9 +12,9 @@ use Rattle.model.specs.Given.{Result}
 use Rattle.model.specs.declared.Outcome.{Outcome}
 use Rattle.model.specs.declared.Outcome.the-variants as outcome
 use Rattle.providers.specs.declared.Listed.{Listed}
-use Rattle.table.specs.Table.{decode}
-use Rattle.table.specs.Sound.{SoundTable, soundnessOf, rowsIn}
-use Rattle.table.specs.declared.scan.Soundness.the-variants.{Sound}
+use Rattle.rows.specs.Table.{decode}
+use Rattle.scan.specs.Sound.{SoundTable, soundnessOf, rowsIn}
+use Rattle.scan.specs.declared.Soundness.the-variants.{Sound}
 use Rattle.tray.specs.Tray.{placesIn, putAll}
 use Rattle.engine.specs.declared.event.Answer.{Answer}
 use Rattle.engine.specs.Event.{Did, tableAfter}

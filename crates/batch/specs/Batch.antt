@@ -11,9 +11,9 @@ use Rattle.model.specs.Given.{Result}
 use Rattle.model.specs.Step.{PLACES}
 use Rattle.providers.specs.Providers.{listed, entryOf}
 use Rattle.providers.specs.declared.Listed.{Listed}
-use Rattle.table.specs.Chunks.{chunks}
-use Rattle.table.specs.Sound.{SoundTable, soundnessOf}
-use Rattle.table.specs.declared.scan.Soundness.the-variants.{Sound}
+use Rattle.rows.specs.Chunks.{chunks}
+use Rattle.scan.specs.Sound.{SoundTable, soundnessOf}
+use Rattle.scan.specs.declared.Soundness.the-variants.{Sound}
 use Rattle.tray.specs.Tray.{messageSize, placesIn, putAll}
 use Rattle.engine.specs.Event.{tableAfter}
 use Rattle.engine.specs.Step.{formed, fitting, resultIn}

@@ -1,14 +1,14 @@
 // Many event records on one table: its soundness is checked once, and each event is then a step.
 use providers::Listed;
-use table::scan::Soundness;
+use scan::Soundness;
 ghost use mathlib.Core.Path.{_≡_};
 ghost use mathlib.Core.Bool.{true};
 ghost use mathlib.Core.List.{map};
 ghost use Prim.Native.Nat.{_+_, _*_, _/_, _%_, _≤_, suc};
 ghost use lib.ListN.{length, drop};
 ghost use Rattle.providers.specs.Providers.{listed, entryOf};
-ghost use Rattle.table.specs.Sound.{SoundTable, soundnessOf};
-ghost use Rattle.table.specs.declared.scan.Soundness.the-variants.{Sound};
+ghost use Rattle.scan.specs.Sound.{SoundTable, soundnessOf};
+ghost use Rattle.scan.specs.declared.Soundness.the-variants.{Sound};
 ghost use Rattle.tray.specs.Tray.{messageSize, placesIn};
 ghost use Rattle.engine.specs.Step.{fitting};
 ghost use Rattle.batch.specs.Batch.{RECORD, recordsIn, Stand, resultAt, steps, begin, refusal, leaves, refusedWith, Went, Turned};
@@ -165,7 +165,7 @@ pub fn run(
     ensures { λ r. ⌜ Went (refusal (listed (map entryOf (now (providers .entry)))) (now (books .entry)) most (now (events .entry)) (now (table .entry)) (now (tray .entry)) (now (outs .entry))) (leaves (listed (map entryOf (now (providers .entry)))) (now (books .entry)) most (now (events .entry)) (now (table .entry)) (now (tray .entry)) (now (outs .entry))) (now (table .exit)) (now (tray .exit)) (now (outs .exit)) r ⌝ }
 {
     let l = providers::marks_of_bytes(providers);
-    let verdict = table::scan::verdict(table);
+    let verdict = scan::verdict(table);
     match verdict {
         Soundness::Sound { used } => on_table(table, used, l, books, most, events, tray, outs),
         Soundness::Unsound => refused(1),

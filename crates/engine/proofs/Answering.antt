@@ -31,8 +31,8 @@ use Rattle.model.proofs.SoundRows.{Row, cast-ranges}
 use Rattle.model.proofs.SoundLaws.{Brings}
 use Rattle.model.proofs.SoundStep.{answer-passed}
 use Rattle.broadcast.specs.Bounds.{Waits}
-use Rattle.table.specs.Table.{decode}
-use Rattle.table.specs.Sound.{rowsIn, itself, SoundTable}
+use Rattle.rows.specs.Table.{decode}
+use Rattle.scan.specs.Sound.{rowsIn, itself, SoundTable}
 use Rattle.table.specs.Survey.{Surveyed, Found, Stands, theOne, versionAt}
 use Rattle.table.specs.declared.survey.Facts.{Facts}
 use Rattle.table.specs.declared.survey.Seen.{Seen}

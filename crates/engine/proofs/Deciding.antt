@@ -27,8 +27,8 @@ use Rattle.model.proofs.Lists.{all-keep}
 use Rattle.model.proofs.TableLaws.{rising-part}
 use Rattle.model.proofs.Apart.{rows-rows}
 use Rattle.books.specs.Packed.{decodeBooks}
-use Rattle.table.specs.Table.{decode, encode}
-use Rattle.table.specs.Sound.{rowsIn, itself, SoundTable}
+use Rattle.rows.specs.Table.{decode, encode}
+use Rattle.scan.specs.Sound.{rowsIn, itself, SoundTable}
 use Rattle.table.specs.Survey.{Surveyed, theOne}
 use Rattle.table.specs.declared.survey.Facts.{Facts}
 use Rattle.tray.specs.Tray.{putAll}

@@ -22,10 +22,10 @@ use Rattle.model.specs.declared.Reading.{Reading}
 use Rattle.model.specs.declared.Reading.the-variants.{Record, Malformed}
 use Rattle.record.specs.Layout.{readEvent}
 use Rattle.providers.specs.declared.Listed.{Listed}
-use Rattle.table.specs.Table.{decode, encode}
-use Rattle.table.specs.Sound.{rowsIn, itself, soundnessOf, SoundTable}
-use Rattle.table.specs.declared.scan.Soundness.the-variants.{Sound}
-use Rattle.table.proofs.Meant.{says-sound}
+use Rattle.rows.specs.Table.{decode, encode}
+use Rattle.scan.specs.Sound.{rowsIn, itself, soundnessOf, SoundTable}
+use Rattle.scan.specs.declared.Soundness.the-variants.{Sound}
+use Rattle.scan.proofs.Meant.{says-sound}
 use Rattle.table.proofs.Steps.{says-again, rows-again, sound-again}
 use Rattle.engine.specs.Event.{tableAfter}
 use Rattle.engine.specs.Step.{settingOf, formed, resultIn}

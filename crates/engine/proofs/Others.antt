@@ -25,8 +25,8 @@ use Rattle.model.proofs.Formed.{fields}
 use Rattle.model.proofs.SoundRows.{Row}
 use Rattle.model.proofs.SoundLaws.{Brings}
 use Rattle.books.specs.Packed.{decodeBooks, soundBytes}
-use Rattle.table.specs.Table.{decode}
-use Rattle.table.specs.Sound.{SoundTable}
+use Rattle.rows.specs.Table.{decode}
+use Rattle.scan.specs.Sound.{SoundTable}
 use Rattle.table.specs.Survey.{Surveyed}
 use Rattle.table.specs.declared.survey.Facts.{Facts}
 use Rattle.table.specs.declared.survey.Seen.the-variants.{One}

@@ -23,9 +23,9 @@ use Rattle.record.proofs.Theorems.{read-is-formed}
 use Rattle.providers.specs.declared.Listed.{Listed}
 use Rattle.books.specs.Packed.{decodeBooks, soundBytes}
 use Rattle.books.specs.Given.{sound-books}
-use Rattle.table.specs.Table.{decode}
-use Rattle.table.specs.Sound.{rowsIn, soundnessOf, SoundTable, itself}
-use Rattle.table.specs.declared.scan.Soundness.the-variants.{Unsound, Sound}
+use Rattle.rows.specs.Table.{decode}
+use Rattle.scan.specs.Sound.{rowsIn, soundnessOf, SoundTable, itself}
+use Rattle.scan.specs.declared.Soundness.the-variants.{Unsound, Sound}
 use Rattle.tray.specs.Tray.{placesIn, putAll}
 use Rattle.engine.specs.Event.{Did, Ready, givenTo}
 use Rattle.engine.specs.declared.event.Answer.{Answer}

@@ -9,8 +9,8 @@ use Rattle.model.specs.Given.{Result}
 use Rattle.model.specs.Outcomes.{isDone}
 use Rattle.model.specs.declared.Message.{Message}
 use Rattle.providers.specs.Providers.{listed, entryOf}
-use Rattle.table.specs.Sound.{soundnessOf}
-use Rattle.table.specs.declared.scan.Soundness.the-variants.{Sound}
+use Rattle.scan.specs.Sound.{soundnessOf}
+use Rattle.scan.specs.declared.Soundness.the-variants.{Sound}
 use Rattle.tray.specs.Tray.{putAll}
 use Rattle.engine.specs.declared.event.Answer.{Answer}
 use Rattle.engine.specs.Event.{Did, tableAfter}

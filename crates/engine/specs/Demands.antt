@@ -14,8 +14,8 @@ use Rattle.model.specs.Exchange.{Exchangeable, May, reorder, mailOf}
 use Rattle.record.specs.Layout.{widths, eventOf, readEvent}
 use Rattle.providers.specs.Providers.{listed, entryOf}
 use Rattle.books.specs.Packed.{soundBytes}
-use Rattle.table.specs.Sound.{rowsIn, itself, soundnessOf}
-use Rattle.table.specs.declared.scan.Soundness.the-variants.{Sound}
+use Rattle.scan.specs.Sound.{rowsIn, itself, soundnessOf}
+use Rattle.scan.specs.declared.Soundness.the-variants.{Sound}
 use Rattle.tray.specs.Tray.{placesIn}
 use Rattle.engine.specs.Event.{tableAfter}
 use Rattle.engine.specs.Step.{resultOf}

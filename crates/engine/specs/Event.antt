@@ -11,8 +11,8 @@ use Rattle.model.specs.Record.{wellFormed}
 use Rattle.model.specs.Outcomes.{isDone, numberOf}
 use Rattle.model.specs.Given.{Given, Result}
 use Rattle.books.specs.Packed.{decodeBooks, soundBytes}
-use Rattle.table.specs.Table.{decode, encode}
-use Rattle.table.specs.Sound.{rowsIn, itself}
+use Rattle.rows.specs.Table.{decode, encode}
+use Rattle.scan.specs.Sound.{rowsIn, itself}
 use Rattle.tray.specs.Tray.{putAll}
 use Rattle.engine.specs.declared.event.Answer.{Answer}
 use Rattle.model.specs.declared.Event.{Event}

@@ -10,10 +10,10 @@ use Rattle.record.specs.Layout.{readEvent}
 use Rattle.providers.specs.Providers.{listed, entryOf}
 use Rattle.providers.specs.declared.Listed.{Listed}
 use Rattle.books.specs.Packed.{decodeBooks, soundBytes}
-use Rattle.table.specs.Table.{decode}
-use Rattle.table.specs.Sound.{rowsIn, soundnessOf}
-use Rattle.table.specs.declared.scan.Soundness.{Soundness}
-use Rattle.table.specs.declared.scan.Soundness.the-variants.{Unsound, Sound}
+use Rattle.rows.specs.Table.{decode}
+use Rattle.scan.specs.Sound.{rowsIn, soundnessOf}
+use Rattle.scan.specs.declared.Soundness.{Soundness}
+use Rattle.scan.specs.declared.Soundness.the-variants.{Unsound, Sound}
 use Rattle.tray.specs.Tray.{placesIn}
 use Rattle.model.specs.declared.Marks.{Marks}
 use Rattle.model.specs.declared.Outcome.the-variants as outcome

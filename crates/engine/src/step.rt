@@ -3,11 +3,11 @@ use crate::event;
 use crate::event::Answer;
 use model::Reading;
 use providers::Listed;
-use table::scan::Soundness;
+use scan::Soundness;
 ghost use mathlib.Core.Path.{_≡_};
 ghost use mathlib.Core.Bool.{true};
-ghost use Rattle.table.specs.Sound.{SoundTable, soundnessOf};
-ghost use Rattle.table.specs.declared.scan.Soundness.the-variants.{Sound};
+ghost use Rattle.scan.specs.Sound.{SoundTable, soundnessOf};
+ghost use Rattle.scan.specs.declared.Soundness.the-variants.{Sound};
 ghost use Rattle.tray.specs.Tray.{placesIn};
 ghost use Rattle.engine.specs.Event.{Did};
 ghost use Rattle.engine.specs.Step.{fitting, resultIn, resultOf};
@@ -81,7 +81,7 @@ pub fn step_listed(
 ) -> Answer
     ensures { λ r. ⌜ Did (resultIn l (now (books .entry)) most (now (event .entry)) (now (table .entry)) (now (tray .entry))) (now (table .entry)) (now (tray .entry)) (now (table .exit)) (now (tray .exit)) r ⌝ }
 {
-    let verdict = table::scan::verdict(table);
+    let verdict = scan::verdict(table);
     match verdict {
         Soundness::Sound { used } => on_table(table, used, l, books, most, event, tray),
         Soundness::Unsound => Answer {

@@ -22,7 +22,7 @@ use Rattle.model.specs.declared.Version.{Version}
 use Rattle.model.specs.declared.Outcome.{Outcome}
 use Rattle.model.specs.declared.Outcome.the-variants.{Done, Unsound, Malformed, Absent, Unlisted, Unknown, Standless, Misplaced, Early, Unfit, Busy, Unawaited, NotCurrent, Full, Exhausted}
 use Rattle.model.specs.Table.{rowsOf}
-use Rattle.table.specs.Sound.{itself}
+use Rattle.scan.specs.Sound.{itself}
 use Rattle.table.specs.Survey.{Surveyed}
 use Rattle.table.specs.declared.survey.Facts.{Facts}
 use Rattle.judge.specs.Judged.{createFor, unknownBy, answerFor, otherFor}

@@ -14,8 +14,8 @@ use Rattle.model.specs.declared.Outcome.the-variants as outcome
 use Rattle.providers.specs.Providers.{listed, entryOf}
 use Rattle.providers.specs.declared.Listed.{Listed}
 use Rattle.books.specs.Packed.{decodeBooks, soundBytes}
-use Rattle.table.specs.Table.{decode}
-use Rattle.table.specs.Sound.{rowsIn}
+use Rattle.rows.specs.Table.{decode}
+use Rattle.scan.specs.Sound.{rowsIn}
 use Rattle.engine.specs.Step.{settingOf, formed, resultIn, resultOf}
 use Rattle.batch.specs.Batch.{refusal}
 use Rattle.lupinenblatt.specs.Checks.{checkedBooks}

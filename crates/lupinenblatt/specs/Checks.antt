@@ -5,8 +5,8 @@ use mathlib.Core.List.{List, map}
 use Prim.Native.Nat.{ℕ}
 use Rattle.providers.specs.Providers.{listed, entryOf}
 use Rattle.books.specs.Packed.{soundBytes}
-use Rattle.table.specs.declared.scan.Soundness.{Soundness}
-use Rattle.table.specs.declared.scan.Soundness.the-variants.{Unsound, Sound}
+use Rattle.scan.specs.declared.Soundness.{Soundness}
+use Rattle.scan.specs.declared.Soundness.the-variants.{Unsound, Sound}
 use Rattle.engine.specs.declared.event.Answer.{Answer}
 
 -- outcome 0 and the used rows, or outcome 1 [T2, O2]

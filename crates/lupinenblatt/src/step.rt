@@ -1,9 +1,9 @@
 // The step, and the checks of what it is lent.
 use engine::event::Answer;
-use table::scan::Soundness;
+use scan::Soundness;
 ghost use mathlib.Core.Path.{_≡_};
 ghost use Rattle.model.specs.Books.{defaultRetries};
-ghost use Rattle.table.specs.Sound.{soundnessOf};
+ghost use Rattle.scan.specs.Sound.{soundnessOf};
 ghost use Rattle.engine.specs.Event.{Did};
 ghost use Rattle.engine.specs.Step.{resultOf};
 ghost use Rattle.lupinenblatt.specs.Checks.{checkedTable, checkedBooks};
@@ -52,7 +52,7 @@ pub extern "C" fn lupinenblatt_step_default(
 pub extern "C" fn lupinenblatt_table_check(table: &[u8]) -> Answer
     ensures { λ r. ⌜ r ≡ checkedTable (soundnessOf (now (table .entry))) ⌝ }
 {
-    let verdict = table::scan::verdict(table);
+    let verdict = scan::verdict(table);
     match verdict {
         Soundness::Sound { used } => Answer {
             outcome: 0,

@@ -13,7 +13,7 @@ use files::PROVIDERS;
 use files::RETRIES;
 use files::TABLE;
 use libc::STDERR_FILENO;
-use table::scan::Soundness;
+use scan::Soundness;
 
 const MOST_RETRIES: u8 = 7;
 
@@ -45,7 +45,7 @@ fn table_fits(table: &[u8]) -> bool {
         files::say_of(TABLE, b"the table is not whole rows of 80 bytes");
         return false;
     }
-    let verdict = table::scan::verdict(table);
+    let verdict = scan::verdict(table);
     match verdict {
         Soundness::Sound { used } => true,
         Soundness::Unsound => {

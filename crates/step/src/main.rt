@@ -74,7 +74,7 @@ fn print_row(table: &[u8], i: usize) -> bool {
     if table.len() / ROW <= i {
         return false;
     }
-    let w = table::rows::words(table, i);
+    let w = rows::words(table, i);
     if row::codec::blank(w) {
         return false;
     }

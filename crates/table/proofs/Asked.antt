@@ -14,10 +14,10 @@ use Rattle.model.specs.Basics.{keep, first, largest}
 use Rattle.model.specs.Table.{order, sel, rowsOf, find, notNamed, others}
 use Rattle.model.specs.Sound.{live, count, soundTable}
 use Rattle.model.proofs.Order.{order-eq}
-use Rattle.table.specs.Sound.{itself}
+use Rattle.scan.specs.Sound.{itself}
 use Rattle.table.specs.Survey.{named}
-use Rattle.table.proofs.Counted.{tally-counts}
-use Rattle.table.proofs.Meant.{table-good}
+use Rattle.scan.proofs.Counted.{tally-counts}
+use Rattle.scan.proofs.Meant.{table-good}
 use Rattle.table.proofs.Numbered.{find-first, rises-type, rising-rows, named-is}
 
 -- ---- a name among the rows of its number

@@ -13,10 +13,10 @@ use Rattle.model.specs.declared.Version.{Version}
 use Rattle.model.specs.Table.{order, find, change, put, add, strike}
 use Rattle.model.proofs.Order.{order-self}
 use Rattle.row.specs.Layout.{keyOf}
-use Rattle.table.specs.Table.{insertAt, removeAt}
+use Rattle.rows.specs.Table.{insertAt, removeAt}
 use Rattle.table.specs.Find.{lowerOf, keyFor, placeIn}
 use Rattle.table.specs.Survey.{versionAt}
-use Rattle.table.proofs.Sounds.{AllSound, RisingFrom, number-lt, Lower, Equal, Higher, order-view, key-higher}
+use Rattle.rows.proofs.Sounds.{AllSound, RisingFrom, number-lt, Lower, Equal, Higher, order-view, key-higher}
 
 -- each number fits its bits
 abbrev pub Numbered : List Version → Type 0

@@ -10,11 +10,11 @@ use native.Mathlib.Numerals.{add-one}
 use borrow.Author.Tests.{lt-ltb, le-ltb}
 use lib.ListN.{length, getD, length-map}
 use Rattle.row.specs.Size.{ROW}
-use Rattle.table.specs.Place.{rowAt}
-use Rattle.table.specs.Chunks.{chunks}
+use Rattle.rows.specs.Place.{rowAt}
+use Rattle.rows.specs.Chunks.{chunks}
 use Rattle.table.specs.Find.{keyIn, keyAt, keysOf, Rises, past, lowerOf}
-use Rattle.table.proofs.Lists.{getD-map}
-use Rattle.table.proofs.Pieces.{chunks-length, getD-chunks}
+use Rattle.rows.proofs.Lists.{getD-map}
+use Rattle.rows.proofs.Pieces.{chunks-length, getD-chunks}
 
 pub keys-length : (n : ℕ) (t : List ℕ) → length (keysOf n t) ≡ n
 unfolding keysOf

@@ -18,9 +18,9 @@ use Rattle.model.proofs.TableLaws.{under-tail, rising-part}
 use Rattle.row.specs.Layout.{keyOf}
 use Rattle.model.proofs.Lists.{and-l, and-r}
 use Rattle.table.specs.Find.{past, lowerOf, keyFor, keys, placeIn}
-use Rattle.table.specs.Sound.{itself}
+use Rattle.scan.specs.Sound.{itself}
 use Rattle.table.specs.Survey.{named}
-use Rattle.table.proofs.Sounds.{AllSound, RisingFrom, number-lt, key-lower}
+use Rattle.rows.proofs.Sounds.{AllSound, RisingFrom, number-lt, key-lower}
 
 -- ---- the rows between two places
 

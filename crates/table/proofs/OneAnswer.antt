@@ -18,11 +18,11 @@ use Rattle.table.specs.declared.survey.Seen.the-variants.{Nobody, One}
 use Rattle.table.specs.declared.survey.Summary.{Summary}
 use Rattle.table.specs.declared.survey.Facts.{Facts}
 use Rattle.table.specs.Find.{keyFor}
-use Rattle.table.specs.Sound.{itself}
+use Rattle.scan.specs.Sound.{itself}
 use Rattle.table.specs.Survey.{versionAt, Found, Summed, Surveyed}
-use Rattle.table.proofs.Sounds.{RisingFrom}
+use Rattle.rows.proofs.Sounds.{RisingFrom}
 use Rattle.table.proofs.Changed.{rises-at}
-use Rattle.table.proofs.Meant.{table-good}
+use Rattle.scan.proofs.Meant.{table-good}
 
 -- a version stands at one place only
 one-place : (t : List Version) → RisingFrom 0 t → (i j : ℕ) → i < length t → j < length t → versionAt t i ≡ versionAt t j → i ≡ j

@@ -16,15 +16,15 @@ use Rattle.row.specs.Layout.{pack, unpack}
 use Rattle.row.proofs.Layouts.{room-fits}
 use Rattle.row.proofs.Rooms.{sound-room}
 use Rattle.row.proofs.Packs.{words-pack, unpack-pack, head-key}
-use Rattle.table.specs.Place.{rowAt}
-use Rattle.table.specs.Table.{decode, encode, cells}
+use Rattle.rows.specs.Place.{rowAt}
+use Rattle.rows.specs.Table.{decode, encode, cells}
 use Rattle.table.specs.Find.{keyIn, keyAt, keysOf, Rises, past, lowerOf, keyFor, keys, placeIn}
-use Rattle.table.specs.Sound.{SoundTable, rowsIn}
-use Rattle.table.proofs.Lists.{getD-map}
-use Rattle.table.proofs.Sounds.{AllSound, sound-at, RisingFrom}
-use Rattle.table.proofs.Tables.{rows-at, rows-encode, row-encode, encode-length}
+use Rattle.scan.specs.Sound.{SoundTable, rowsIn}
+use Rattle.rows.proofs.Lists.{getD-map}
+use Rattle.rows.proofs.Sounds.{AllSound, sound-at, RisingFrom}
+use Rattle.rows.proofs.Tables.{rows-at, rows-encode, row-encode, encode-length}
 use Rattle.table.proofs.Finds.{keys-length, keys-at}
-use Rattle.table.proofs.Meant.{Good, table-good}
+use Rattle.scan.proofs.Meant.{Good, table-good}
 use Rattle.table.proofs.Changed.{rises-at}
 
 -- the key of a sound version's row

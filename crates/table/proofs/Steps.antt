@@ -14,14 +14,14 @@ use Rattle.model.specs.Table.{find, change, changes, put, add, strike}
 use Rattle.model.specs.Sound.{soundTable}
 use Rattle.row.specs.Size.{ROW}
 use Rattle.row.specs.Layout.{pack}
-use Rattle.table.specs.declared.scan.Soundness.the-variants.{Sound}
-use Rattle.table.specs.Place.{putRow, insRow, delRow}
-use Rattle.table.specs.Table.{piecesOf, decode, encode}
+use Rattle.scan.specs.declared.Soundness.the-variants.{Sound}
+use Rattle.rows.specs.Place.{putRow, insRow, delRow}
+use Rattle.rows.specs.Table.{piecesOf, decode, encode}
 use Rattle.table.specs.Find.{keyFor, placeIn}
-use Rattle.table.specs.Sound.{scanRows, scanOf, soundnessOf, rowsIn, itself, SoundTable}
+use Rattle.scan.specs.Sound.{scanRows, scanOf, soundnessOf, rowsIn, itself, SoundTable}
 use Rattle.table.specs.Survey.{versionAt}
-use Rattle.table.proofs.Tables.{encode-length, decode-encode, put-encode, ins-encode, del-encode}
-use Rattle.table.proofs.Meant.{table-good, sound-says, says-sound}
+use Rattle.rows.proofs.Tables.{encode-length, decode-encode, put-encode, ins-encode, del-encode}
+use Rattle.scan.proofs.Meant.{table-good, sound-says, says-sound}
 use Rattle.table.proofs.Sought.{place-le, sound-good}
 use Rattle.table.proofs.Changed.{sound-numbered, set-puts, remove-strikes, insert-adds, rising-set, numbered-set, name-set}
 

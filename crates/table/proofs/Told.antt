@@ -16,9 +16,9 @@ use Rattle.table.specs.declared.survey.Spot.{Spot}
 use Rattle.table.specs.declared.survey.Part.{Part}
 use Rattle.table.specs.declared.survey.Sum.{Sum}
 use Rattle.table.specs.Find.{placeIn}
-use Rattle.table.specs.Sound.{itself}
+use Rattle.scan.specs.Sound.{itself}
 use Rattle.table.specs.Survey.{named, sumOver, nothing, noSum, Within, seenAt, summaryBy, factsBy, Found, Summed, Surveyed, Placed}
-use Rattle.table.proofs.Sounds.{AllSound, RisingFrom}
+use Rattle.rows.proofs.Sounds.{AllSound, RisingFrom}
 use Rattle.table.proofs.Sought.{place-le}
 use Rattle.table.proofs.Numbered.{rows-between, place-up, others-kept, find-first, rising-rows}
 use Rattle.table.proofs.Surveys.{partOver, spotOf, sum-all, sum-rest, sum-worked, sum-asked, part-largest, part-sends, part-live, Lies, spot-within, spot-found, first-kept}

@@ -14,14 +14,14 @@ use Rattle.model.specs.declared.Version.{Version}
 use Rattle.row.specs.Codec.{wordsIn, isBlank, blank}
 use Rattle.row.specs.Layout.{pack, unpack}
 use Rattle.row.proofs.Packs.{blank-free, pack-used}
-use Rattle.table.specs.Place.{rowAt}
-use Rattle.table.specs.Table.{piecesOf, decode, cells}
-use Rattle.table.specs.Sound.{SoundTable, rowsIn}
+use Rattle.rows.specs.Place.{rowAt}
+use Rattle.rows.specs.Table.{piecesOf, decode, cells}
+use Rattle.scan.specs.Sound.{SoundTable, rowsIn}
 use Rattle.table.specs.Survey.{versionAt}
-use Rattle.table.proofs.Lists.{getD-map}
-use Rattle.table.proofs.Sounds.{sound-at}
-use Rattle.table.proofs.Meant.{table-good}
-use Rattle.table.proofs.Tables.{rows-encode, rows-at}
+use Rattle.rows.proofs.Lists.{getD-map}
+use Rattle.rows.proofs.Sounds.{sound-at}
+use Rattle.scan.proofs.Meant.{table-good}
+use Rattle.rows.proofs.Tables.{rows-encode, rows-at}
 
 module _ (t : List ℕ) (n : ℕ) (s : SoundTable t n) where
   row-cell : (i : ℕ) → i < rowsIn t → rowAt t i ≡ getD (cells (decode t) (rowsIn t)) i []

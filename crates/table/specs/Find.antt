@@ -9,8 +9,8 @@ use Rattle.model.specs.declared.Version.{Version}
 use Rattle.row.specs.Size.{ROW}
 use Rattle.row.specs.Codec.{wordsIn}
 use Rattle.row.specs.Layout.{keyOf}
-use Rattle.table.specs.Place.{rowAt}
-use Rattle.table.specs.Chunks.{chunks}
+use Rattle.rows.specs.Place.{rowAt}
+use Rattle.rows.specs.Chunks.{chunks}
 
 abbrev pub keyIn : List ℕ → ℕ
 keyIn b = wordsIn b .head / 16384

@@ -21,7 +21,7 @@ use Rattle.table.specs.declared.survey.Seen.{Seen}
 use Rattle.table.specs.declared.survey.Seen.the-variants.{Nobody, One}
 use Rattle.table.specs.declared.survey.Summary.{Summary}
 use Rattle.table.specs.declared.survey.Facts.{Facts}
-use Rattle.table.specs.Sound.{itself}
+use Rattle.scan.specs.Sound.{itself}
 
 -- ---- one version more
 

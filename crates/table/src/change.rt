@@ -1,13 +1,12 @@
 // What an event may change in a sound table: a version put over the one of its name, added, or struck out.
 use crate::find;
-use crate::rows;
 use model::Version;
 ghost use mathlib.Core.Path.{_≡_};
 ghost use mathlib.Core.List.{[], _∷_};
 ghost use Prim.Native.Nat.{_<_};
 ghost use Rattle.model.specs.Table.{change, changes, put, add, strike};
-ghost use Rattle.table.specs.Table.{decode, encode};
-ghost use Rattle.table.specs.Sound.{rowsIn, SoundTable};
+ghost use Rattle.rows.specs.Table.{decode, encode};
+ghost use Rattle.scan.specs.Sound.{rowsIn, SoundTable};
 ghost use Rattle.table.specs.Survey.{versionAt};
 ghost use Rattle.table.specs.Change.{Over, Fresh};
 

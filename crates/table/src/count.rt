@@ -1,14 +1,13 @@
 // How many rows of a sound table are used, seen from a place near the last of them.
-use crate::rows;
 use row::ROW;
 ghost use mathlib.Core.Path.{_≡_};
 ghost use Prim.Native.Nat.{_+_, _*_, _≤_, _<_};
 ghost use lib.ListN.{length};
 ghost use Rattle.row.specs.Size.{ROW};
 ghost use Rattle.row.specs.Codec.{wordsIn, isBlank};
-ghost use Rattle.table.specs.Place.{rowAt};
-ghost use Rattle.table.specs.Table.{decode};
-ghost use Rattle.table.specs.Sound.{SoundTable, rowsIn};
+ghost use Rattle.rows.specs.Place.{rowAt};
+ghost use Rattle.rows.specs.Table.{decode};
+ghost use Rattle.scan.specs.Sound.{SoundTable, rowsIn};
 
 fn free(t: &[u8], i: usize) -> bool
     requires { ⌜ i * ROW + ROW ≤ length (now t) ⌝ }

@@ -6,8 +6,8 @@ ghost use Prim.Native.Nat.{_+_, _*_, _/_, _≤_, _<_};
 ghost use lib.ListN.{length};
 ghost use Rattle.row.specs.Size.{ROW};
 ghost use Rattle.row.specs.Layout.{keyOf};
-ghost use Rattle.table.specs.Table.{decode};
-ghost use Rattle.table.specs.Sound.{SoundTable};
+ghost use Rattle.rows.specs.Table.{decode};
+ghost use Rattle.scan.specs.Sound.{SoundTable};
 ghost use Rattle.table.specs.Find.{keyAt, keysOf, Rises, lowerOf, placeIn};
 
 // The first word of row i, whose highest 50 bits are the key; nothing else is read.

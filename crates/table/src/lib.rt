@@ -2,7 +2,4 @@
 pub mod change;
 pub mod count;
 pub mod find;
-pub mod join;
-pub mod rows;
-pub mod scan;
 pub mod survey;

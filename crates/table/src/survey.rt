@@ -1,14 +1,13 @@
 // What the versions of one number have together: one pass over their rows.
 use crate::find;
-use crate::join;
-use crate::rows;
+use scan::join;
 use model::Id;
 use model::Version;
 ghost use mathlib.Core.Path.{_≡_};
 ghost use Prim.Native.Nat.{_+_, _*_, _≤_, _<_, max};
 ghost use lib.Seq.{slice};
-ghost use Rattle.table.specs.Table.{decode};
-ghost use Rattle.table.specs.Sound.{SoundTable};
+ghost use Rattle.rows.specs.Table.{decode};
+ghost use Rattle.scan.specs.Sound.{SoundTable};
 ghost use Rattle.table.specs.Survey.{firstBy, partWith, sumWith, sumOver, nothing, noSum, Within, seenAt, summaryBy, factsBy, Placed, Surveyed};
 
 // The place of the first version that passed a test.

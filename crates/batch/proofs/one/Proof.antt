@@ -5,7 +5,7 @@ use native.Mathlib.Omega.{arith}
 use mathlib.Core.List.{List}
 use lib.ListN.{length, length-set}
 use Rattle.tray.specs.Tray.{placesIn}
-use Rattle.table.specs.Sound.{rowsIn}
+use Rattle.scan.specs.Sound.{rowsIn}
 use Rattle.engine.specs.Step.{fitting}
 use Rattle.batch.proofs.Turns.{part-is, said-small, count-small, stays, turned-at}
 use borrow.Author.Needs.{needs}

@@ -3,7 +3,7 @@ use mathlib.Core.Path.{refl, sym, ap, _∙_}
 use native.Mathlib.Omega.{arith}
 use mathlib.Core.List.{map}
 use Rattle.providers.specs.Providers.{listed, entryOf}
-use Rattle.table.proofs.Meant.{sound-says}
+use Rattle.scan.proofs.Meant.{sound-says}
 use Rattle.batch.proofs.Refusing.{went-refused, no-table, went-is}
 use borrow.Author.Needs.{needs}
 use Rattle.batch.proofs.run.Statement.{statement}

@@ -1,6 +1,6 @@
 use denote.Ref.{now}
 use mathlib.Core.Path.{refl, sym, _∙_}
-use Rattle.table.proofs.Meant.{sound-says}
+use Rattle.scan.proofs.Meant.{sound-says}
 use Rattle.engine.proofs.Stepping.{no-table, did-refuse}
 use borrow.Author.Needs.{needs}
 use Rattle.engine.proofs.step.step_listed.Statement.{statement}

@@ -3,8 +3,8 @@ use mathlib.Core.Path.{_≡_, ap, _∙_}
 use Prim.Native.Nat.{ℕ}
 use native.Mathlib.Omega.{arith}
 use Rattle.row.specs.Layout.{pack}
-use Rattle.table.specs.Place.{insRow}
-use Rattle.table.specs.Table.{decode}
+use Rattle.rows.specs.Place.{insRow}
+use Rattle.rows.specs.Table.{decode}
 use Rattle.table.specs.Find.{keyFor, placeIn}
 use Rattle.table.proofs.Sought.{place-le}
 use Rattle.table.proofs.Steps.{insert-puts}

@@ -2,7 +2,7 @@
 use mathlib.Core.Path.{refl, _∙_}
 use Prim.Native.Nat.{_-_}
 use native.Mathlib.Omega.{arith}
-use Rattle.table.specs.Table.{decode}
+use Rattle.rows.specs.Table.{decode}
 use Rattle.table.specs.Survey.{versionAt}
 use Rattle.table.proofs.Steps.{remove-takes}
 use borrow.Author.Needs.{needs}

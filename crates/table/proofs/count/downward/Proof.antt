@@ -4,8 +4,8 @@ use native.Mathlib.Omega.{arith}
 use Rattle.table.proofs.Using.{free-from, used-before}
 use lib.ListN.{length}
 use borrow.Author.Tests.{not-true, not-false}
-use Rattle.table.specs.Table.{decode}
-use Rattle.table.specs.Sound.{rowsIn}
+use Rattle.rows.specs.Table.{decode}
+use Rattle.scan.specs.Sound.{rowsIn}
 use Rattle.table.proofs.count.downward.Statement.{statement}
 use Rattle.table.proofs.count.downward.Tie as tie
 

@@ -6,7 +6,7 @@ use lib.ListN.{take, drop}
 use Rattle.octets.specs.Octets.{be}
 use Rattle.row.specs.Size.{ROW}
 use Rattle.row.specs.Codec.{wordsIn}
-use Rattle.table.specs.Place.{rowAt}
+use Rattle.rows.specs.Place.{rowAt}
 use Rattle.table.specs.Find.{keyAt}
 use borrow.Author.Needs.{needs}
 use Rattle.table.proofs.find.first.Statement.{statement}

@@ -6,7 +6,7 @@ use native.Mathlib.Omega.{arith}
 use Rattle.row.specs.Layout.{unpack}
 use Rattle.table.specs.declared.survey.Spot.{Spot}
 use Rattle.table.specs.declared.survey.Seen.the-variants.{One}
-use Rattle.table.specs.Table.{decode}
+use Rattle.rows.specs.Table.{decode}
 use Rattle.table.specs.Survey.{Within, seenAt}
 use Rattle.table.proofs.Sought.{sound-load}
 use borrow.Author.Needs.{needs}

@@ -2,7 +2,7 @@
 use mathlib.Core.Path.{_≡_, sym, subst}
 use Prim.Native.Nat.{_+_, _*_}
 use native.Mathlib.Omega.{arith}
-use Rattle.table.specs.Table.{decode}
+use Rattle.rows.specs.Table.{decode}
 use Rattle.table.specs.Find.{placeIn}
 use Rattle.table.specs.Survey.{Placed, Surveyed}
 use Rattle.table.proofs.Sought.{sound-good}

@@ -6,7 +6,7 @@ use native.Mathlib.Omega.{arith}
 use lib.Seq.{slice}
 use Rattle.row.specs.Layout.{unpack}
 use Rattle.table.specs.declared.survey.Sum.{Sum}
-use Rattle.table.specs.Table.{decode}
+use Rattle.rows.specs.Table.{decode}
 use Rattle.table.specs.Survey.{sumWith, sumOver, versionAt}
 use Rattle.table.proofs.Sought.{sound-load}
 use Rattle.table.proofs.Surveys.{sum-step, sum-done}
