@@ -100,7 +100,7 @@ fn write_case(frame: &[u8; 96], out: &mut [u8]) {
 
 // The same by the calls for C, and what reading the bytes back says and hands over.
 fn number_case(frame: &[u8; 96], out: &mut [u8]) {
-    let said = lupinenblatt::lupinenblatt_record_write(
+    let said = fields::write(
         field(frame, 8),
         field(frame, 16),
         field(frame, 24),
@@ -122,7 +122,7 @@ fn number_case(frame: &[u8; 96], out: &mut [u8]) {
 
 fn read_back(s: &[u8]) {
     let mut fields = [0u64; 10];
-    print_number(lupinenblatt::lupinenblatt_record_read(s, &mut fields) as u64);
+    print_number(fields::read(s, &mut fields) as u64);
     print_numbers(&fields);
 }
 

@@ -2,6 +2,7 @@
 // says that a file could not be read or written.
 use crate::files;
 use crate::files::EVENTS;
+use batch::Ran;
 use libc::STDERR_FILENO;
 
 const RECORD: usize = 24;
@@ -93,6 +94,33 @@ fn nothing() -> Done {
     Done { place: 0, bytes: 0 }
 }
 
+// What a run has left: the lines of its events, and its messages.
+fn put_run(
+    place: u64,
+    outcomes: i32,
+    messages: i32,
+    tray: &[u8],
+    answers: &[u8],
+    ran: Ran,
+) -> Done {
+    let count = ran.events;
+    if count > AT_ONCE {
+        return nothing();
+    }
+    let behind = put_answers(outcomes, place, answers, count as usize);
+    if behind == 0 {
+        return nothing();
+    }
+    if !put_messages(messages, tray, ran.messages) {
+        files::fail(b"MESSAGES");
+        return nothing();
+    }
+    Done {
+        place: behind,
+        bytes: count as usize * RECORD,
+    }
+}
+
 // As many of the records as the tray has room for.
 fn some(
     place: u64,
@@ -111,22 +139,7 @@ fn some(
         files::say(b"refused what was checked");
         return nothing();
     }
-    let count = ran.events;
-    if count > AT_ONCE {
-        return nothing();
-    }
-    let behind = put_answers(outcomes, place, answers, count as usize);
-    if behind == 0 {
-        return nothing();
-    }
-    if !put_messages(messages, tray, ran.messages) {
-        files::fail(b"MESSAGES");
-        return nothing();
-    }
-    Done {
-        place: behind,
-        bytes: count as usize * RECORD,
-    }
+    put_run(place, outcomes, messages, tray, answers, ran)
 }
 
 // Whole records; the place behind them, or 0.

@@ -1,8 +1,8 @@
 // What the versions of one number have together: one pass over their rows.
 use crate::find;
-use scan::join;
 use model::Id;
 use model::Version;
+use scan::join;
 ghost use mathlib.Core.Path.{_≡_};
 ghost use Prim.Native.Nat.{_+_, _*_, _≤_, _<_, max};
 ghost use lib.Seq.{slice};

@@ -2,10 +2,10 @@ use native.Mathlib.Omega.{arith}
 use lib.ListN.{length-set}
 use denote.Ref.{now}
 use Rattle.record.specs.Layout.{tenOf}
-use Rattle.lupinenblatt.proofs.Answers.{set-all}
+use Rattle.fields.proofs.Answers.{set-all}
 use borrow.Author.Needs.{needs}
-use Rattle.lupinenblatt.proofs.store.Statement.{statement}
-use Rattle.lupinenblatt.proofs.store.Tie as tie
+use Rattle.fields.proofs.store.Statement.{statement}
+use Rattle.fields.proofs.store.Tie as tie
 
 cast-fields : tie.Need-cast-fields
 cast-fields c = search needs

@@ -18,7 +18,7 @@ use Rattle.model.specs.Record.{named, kindFits, fitsBits, wellFormed}
 use Rattle.record.specs.Layout.{tenOf, eventOf, Written}
 use Rattle.record.proofs.Inverse.{bits-at, said-done}
 use Rattle.record.proofs.Codec.{refused-fields}
-use Rattle.lupinenblatt.specs.Calls.{handedTo, handedNumber, Handed, Narrow}
+use Rattle.fields.specs.Calls.{handedTo, handedNumber, Handed, Narrow}
 
 -- ---- reading
 

@@ -8,8 +8,8 @@ use Rattle.model.specs.declared.Event.{Event}
 use Rattle.model.specs.declared.Reading.{Reading}
 use Rattle.record.specs.Layout.{tenOf, eventOf, readEvent, Written}
 use Rattle.record.proofs.Theorems.{write-then-read, read-then-write}
-use Rattle.lupinenblatt.specs.Calls.{Handed}
-use Rattle.lupinenblatt.proofs.Answers.{handed-is, handed-done}
+use Rattle.fields.specs.Calls.{Handed}
+use Rattle.fields.proofs.Answers.{handed-is, handed-done}
 
 -- WRITE, THEN READ: what a write has left, saying 0, is handed back to ten places, saying 0. [E6]
 pub call-write-then-read : (e : Event) (xs ys us vs : List ℕ) (n : ℕ) → Written e xs ys 0 → length us ≡ 10 → Handed (readEvent ys) us vs n

@@ -1,7 +1,7 @@
 use mathlib.Core.Path.{refl}
 use Rattle.model.specs.Record.{fitsBits}
-use Rattle.lupinenblatt.proofs.fits_bits.Statement.{statement}
-use Rattle.lupinenblatt.proofs.fits_bits.Tie as tie
+use Rattle.fields.proofs.fits_bits.Statement.{statement}
+use Rattle.fields.proofs.fits_bits.Tie as tie
 
 returns : tie.Need-returns
 unfolding fitsBits

@@ -1,10 +1,10 @@
 use mathlib.Core.Path.{sym}
 use denote.Ref.{now}
-use Rattle.lupinenblatt.specs.Calls.{event}
-use Rattle.lupinenblatt.proofs.Answers.{narrow, wide-refused}
+use Rattle.fields.specs.Calls.{event}
+use Rattle.fields.proofs.Answers.{narrow, wide-refused}
 use borrow.Author.Needs.{needs}
-use Rattle.lupinenblatt.proofs.lupinenblatt_record_write.Statement.{statement}
-use Rattle.lupinenblatt.proofs.lupinenblatt_record_write.Tie as tie
+use Rattle.fields.proofs.write.Statement.{statement}
+use Rattle.fields.proofs.write.Tie as tie
 
 fits-bits-requires : tie.Need-fits-bits-requires
 fits-bits-requires c κs = search needs
@@ -30,7 +30,7 @@ returns-2 c =
     wide-refused (event (a .kind) (a .sender) (a .other) (a .mark) (a .cause) (a .tn) (a .lrn) (a .version) (a .time) (a .due)) (now (a .out))
     _ (c .before .fits-bits .ensures) (c .if1 .left)
 
-pub lupinenblatt-record-write-spec : {M : Type 1} → statement M
-lupinenblatt-record-write-spec =
+pub write-spec : {M : Type 1} → statement M
+write-spec =
     tie.close
     (tie.spec fits-bits-requires narrowed-requires write-requires same-length returns returns-2)

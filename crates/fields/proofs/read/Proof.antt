@@ -2,10 +2,10 @@ use mathlib.Core.Path.{sym, _∙_}
 use native.Mathlib.Omega.{arith}
 use denote.Ref.{now}
 use Rattle.record.specs.Layout.{readEvent}
-use Rattle.lupinenblatt.proofs.Answers.{handed-refused, handed-record, handed-malformed}
+use Rattle.fields.proofs.Answers.{handed-refused, handed-record, handed-malformed}
 use borrow.Author.Needs.{needs}
-use Rattle.lupinenblatt.proofs.lupinenblatt_record_read.Statement.{statement}
-use Rattle.lupinenblatt.proofs.lupinenblatt_record_read.Tie as tie
+use Rattle.fields.proofs.read.Statement.{statement}
+use Rattle.fields.proofs.read.Tie as tie
 
 returns : tie.Need-returns
 returns c = handed-refused _ _ (λ q. omega arith)
@@ -37,8 +37,8 @@ returns-2 c =
 returns-3 : tie.Need-returns-3
 returns-3 c = handed-malformed _ _ (sym (c .before .before .read .ensures) ∙ c .enum-told .given .1)
 
-pub lupinenblatt-record-read-spec : {M : Type 1} → statement M
-lupinenblatt-record-read-spec =
+pub read-spec : {M : Type 1} → statement M
+read-spec =
     tie.close
     (tie.spec
     returns
