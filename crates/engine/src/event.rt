@@ -2,9 +2,9 @@
 use model::Event;
 use model::Id;
 use model::Marks;
-use row::ROW;
 use table::survey::Facts;
 use table::survey::Seen;
+use words::ROW;
 ghost use mathlib.Core.Path.{_≡_};
 ghost use mathlib.Core.Bool.{true, false};
 ghost use Prim.Native.Nat.{ℕ, _≤_};

@@ -10,7 +10,7 @@ use Rattle.model.specs.declared.Version.{Version}
 use Rattle.model.specs.Basics.{every}
 use Rattle.model.specs.Retries.{octal, used, noRetries}
 use Rattle.model.specs.Sound.{retriesInRange, castInRange, inRange, newWhole, oldWhole, sidesNeeded, causeFits, apart, setsApart, retriesFit, soundVersion}
-use Rattle.row.specs.Codec.{wordsIn, bytesOf}
+use Rattle.words.specs.Codec.{wordsIn, bytesOf}
 use Rattle.row.specs.Layout.{versionOf, wordsOf, pack, unpack}
 
 -- TN 3035550100, number 1, active, live, both sides created, new provider 2, old provider 1, LRN 3035550000, authorization yes, purpose activate,

@@ -11,10 +11,10 @@ use lib.Dec.{eqb, ltb, lit<}
 use lib.ListN.{getD}
 use Rattle.octets.specs.Fields.{cut, join, fit, join-lt, join-cut, cut-join}
 use Rattle.model.specs.declared.Version.{Version}
-use Rattle.row.specs.declared.Words.{Words}
+use Rattle.words.specs.declared.Words.{Words}
 use Rattle.row.specs.Layout.{headWidths, termWidths, pairWidths, flag, marked, field, versionOf, spareless, headFields, termFields, dueFields, timeFields, wordsOf, Room}
 use Rattle.model.proofs.Lists.{and-l, and-r}
-use Rattle.row.proofs.Spelling.{Fit64}
+use Rattle.words.proofs.Spelling.{Fit64}
 
 marked-flag : (b : Bool) → marked (flag b) ≡ b
 marked-flag true = refl

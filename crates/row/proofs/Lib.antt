@@ -1,5 +1,3 @@
--- The crate's laws.
-pub mod Spelling
 pub mod Layouts
 pub mod Rooms
 pub mod Packs

@@ -14,11 +14,11 @@ use Rattle.octets.specs.Fields.{join, cut-join}
 use Rattle.model.specs.declared.Version.{Version}
 use Rattle.model.specs.Sound.{soundVersion}
 use Rattle.model.proofs.Lists.{conj-at}
-use Rattle.row.specs.declared.Words.{Words}
-use Rattle.row.specs.Size.{ROW}
-use Rattle.row.specs.Codec.{wordsIn, firstOf, lastOf, bytesOf, isBlank, noWords, blank}
+use Rattle.words.specs.declared.Words.{Words}
+use Rattle.words.specs.Size.{ROW}
+use Rattle.words.specs.Codec.{wordsIn, firstOf, lastOf, bytesOf, isBlank, noWords, blank}
 use Rattle.row.specs.Layout.{headWidths, termWidths, field, versionOf, spareless, headFields, termFields, wordsOf, Room, keyOf, pack, unpack}
-use Rattle.row.proofs.Spelling.{bytes-length, words-bytes, bytes-words, words-fit, none-blank, blank-none}
+use Rattle.words.proofs.Spelling.{bytes-length, words-bytes, bytes-words, words-fit, none-blank, blank-none}
 use Rattle.row.proofs.Layouts.{head-fits, terms-fit, room-fits, version-words, words-version}
 use Rattle.row.proofs.Rooms.{sound-room, sound-tn}
 

@@ -12,8 +12,8 @@ use Rattle.model.specs.declared.OldSide.{OldSide}
 use Rattle.model.specs.declared.Retries.{Retries}
 use Rattle.model.specs.declared.Broadcast.{Broadcast}
 use Rattle.model.specs.declared.Version.{Version}
-use Rattle.row.specs.declared.Words.{Words}
-use Rattle.row.specs.Codec.{wordsIn, bytesOf}
+use Rattle.words.specs.declared.Words.{Words}
+use Rattle.words.specs.Codec.{wordsIn, bytesOf}
 
 -- TN, number, status, live, new side created, old side created, window run out, spare
 abbrev pub headWidths : List ℕ

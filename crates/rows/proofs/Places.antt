@@ -4,8 +4,8 @@ use mathlib.Core.List.{List}
 use Prim.Native.Nat.{ℕ, _+_, _*_, _≤_}
 use native.Mathlib.Omega.{arith}
 use lib.ListN.{length}
-use Rattle.row.specs.Size.{ROW}
-use Rattle.row.specs.Codec.{blank}
+use Rattle.words.specs.Size.{ROW}
+use Rattle.words.specs.Codec.{blank}
 use Rattle.rows.specs.Place.{putRow, insRow, delRow, movedDown, movedUp}
 use Rattle.rows.proofs.Moves.{put-down, put-up}
 

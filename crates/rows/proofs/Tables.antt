@@ -9,8 +9,8 @@ use mathlib.Core.Bool.{Bool}
 use lib.ListN.{length, take, drop, getD, set, replicate, length-append, length-take, length-drop, length-set, length-map, length-replicate, List·getD-append}
 use lib.Seq.{slice, set-split, set-append-left, take-append-le, take-at, drop-at, drop-append-add}
 use Rattle.model.specs.declared.Version.{Version}
-use Rattle.row.specs.Size.{ROW}
-use Rattle.row.specs.Codec.{blank}
+use Rattle.words.specs.Size.{ROW}
+use Rattle.words.specs.Codec.{blank}
 use Rattle.row.specs.Layout.{pack, unpack}
 use Rattle.rows.specs.Place.{rowAt, putRow, insRow, delRow}
 use Rattle.rows.specs.Chunks.{chunks, joined}

@@ -4,8 +4,8 @@ use Prim.Native.Nat.{ℕ, _+_, _*_}
 use mathlib.Core.List.{List, _++_}
 use lib.ListN.{take, drop}
 use lib.Seq.{slice}
-use Rattle.row.specs.Size.{ROW}
-use Rattle.row.specs.Codec.{blank}
+use Rattle.words.specs.Size.{ROW}
+use Rattle.words.specs.Codec.{blank}
 
 -- the bytes of row i
 unfoldable pub rowAt : List ℕ → ℕ → List ℕ

@@ -5,8 +5,8 @@ use mathlib.Core.Bool.{Bool, true, false}
 use mathlib.Core.List.{List, [], _∷_, _++_, map}
 use lib.ListN.{length, take, drop, replicate}
 use Rattle.model.specs.declared.Version.{Version}
-use Rattle.row.specs.Size.{ROW}
-use Rattle.row.specs.Codec.{wordsIn, isBlank, blank}
+use Rattle.words.specs.Size.{ROW}
+use Rattle.words.specs.Codec.{wordsIn, isBlank, blank}
 use Rattle.row.specs.Layout.{pack, unpack}
 use Rattle.rows.specs.Chunks.{chunks, joined}
 

@@ -1,12 +1,12 @@
 // Rows of the table, by their place: read, written, put in between, taken out. Nothing is asked of the table but its length.
 use model::Version;
-use row::ROW;
-use row::Words;
+use words::ROW;
+use words::Words;
 ghost use mathlib.Core.Path.{_≡_};
 ghost use Prim.Native.Nat.{_+_, _*_, _≤_, _<_};
 ghost use lib.ListN.{length};
-ghost use Rattle.row.specs.Size.{ROW};
-ghost use Rattle.row.specs.Codec.{wordsIn, bytesOf, blank};
+ghost use Rattle.words.specs.Size.{ROW};
+ghost use Rattle.words.specs.Codec.{wordsIn, bytesOf, blank};
 ghost use Rattle.row.specs.Layout.{Small, pack, unpack};
 ghost use Rattle.rows.specs.Place.{rowAt, putRow, insRow, delRow, movedDown, movedUp};
 
@@ -17,7 +17,7 @@ pub fn words(t: &[u8], i: usize) -> Words
 {
     let a = i * ROW;
     let e = a + ROW;
-    row::codec::get(&t[a..e])
+    words::get(&t[a..e])
 }
 
 // The version in row i.
@@ -26,7 +26,7 @@ pub fn load(t: &[u8], i: usize) -> Version
     ensures { λ r. ⌜ r ≡ unpack (rowAt (now (t .entry)) i) ⌝ }
 {
     let w = words(t, i);
-    row::fields::version_of(w)
+    row::version_of(w)
 }
 
 fn put(t: &mut [u8], i: usize, w: Words)
@@ -35,7 +35,7 @@ fn put(t: &mut [u8], i: usize, w: Words)
 {
     let a = i * ROW;
     let e = a + ROW;
-    row::codec::put(&mut t[a..e], w);
+    words::put(&mut t[a..e], w);
 }
 
 // Row i becomes v's.
@@ -44,7 +44,7 @@ pub fn store(t: &mut [u8], i: usize, v: Version)
     requires { ⌜ Small v ⌝ }
     ensures { λ _. ⌜ now (t .exit) ≡ putRow (now (t .entry)) i (pack v) ⌝ }
 {
-    let w = row::fields::words_of(v);
+    let w = row::words_of(v);
     put(t, i, w);
 }
 
@@ -102,5 +102,5 @@ pub fn remove(t: &mut [u8], i: usize, n: usize)
     let a = i * ROW;
     let e = n * ROW;
     move_up(t, a, e);
-    put(t, n, row::codec::none());
+    put(t, n, words::none());
 }

@@ -5,7 +5,7 @@ use Prim.Native.Nat.{_/_, _<_}
 use native.Mathlib.Nat.{mod-lt}
 use lib.Dec.{lit<}
 use Rattle.model.specs.Sound.{soundVersion}
-use Rattle.row.specs.declared.Words.{Words}
+use Rattle.words.specs.declared.Words.{Words}
 use Rattle.row.specs.Layout.{versionOf, spareless}
 use Rattle.scan.specs.declared.join.Group.{Group}
 use Rattle.scan.specs.declared.join.Joined.the-variants.{No}

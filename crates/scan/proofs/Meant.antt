@@ -12,7 +12,7 @@ use Rattle.octets.specs.Octets.{Bytes}
 use Rattle.model.specs.declared.Version.{Version}
 use Rattle.model.specs.Table.{rowsOf}
 use Rattle.model.specs.Sound.{count, live, sends, worked, oneEach, rising, soundVersion, soundLines, soundTable}
-use Rattle.row.specs.Size.{ROW}
+use Rattle.words.specs.Size.{ROW}
 use Rattle.row.specs.Layout.{keyOf}
 use Rattle.model.specs.Basics.{all, none, with}
 use Rattle.model.proofs.Lists.{and-l, and-r, both-true, conj-at, conj-all}

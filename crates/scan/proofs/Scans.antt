@@ -13,9 +13,9 @@ use lib.Seq.{drop-cons, getD-drop}
 use Rattle.octets.specs.Octets.{Bytes}
 use Rattle.model.specs.declared.Version.{Version}
 use Rattle.model.specs.Sound.{soundVersion}
-use Rattle.row.specs.declared.Words.{Words}
-use Rattle.row.specs.Size.{ROW}
-use Rattle.row.specs.Codec.{wordsIn, isBlank, blank}
+use Rattle.words.specs.declared.Words.{Words}
+use Rattle.words.specs.Size.{ROW}
+use Rattle.words.specs.Codec.{wordsIn, isBlank, blank}
 use Rattle.row.specs.Layout.{versionOf, spareless, pack, unpack}
 use Rattle.row.proofs.Rooms.{sound-room, sound-tn}
 use Rattle.row.proofs.Packs.{unpack-pack, pack-unpack, pack-spareless, blank-row, blank-free, pack-used}

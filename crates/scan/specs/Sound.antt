@@ -7,9 +7,9 @@ use mathlib.Core.List.{List, [], _∷_}
 use lib.Dec.{eqb, leb}
 use lib.ListN.{length}
 use Rattle.model.specs.Sound.{soundVersion, soundTable}
-use Rattle.row.specs.declared.Words.{Words}
-use Rattle.row.specs.Size.{ROW}
-use Rattle.row.specs.Codec.{wordsIn, isBlank}
+use Rattle.words.specs.declared.Words.{Words}
+use Rattle.words.specs.Size.{ROW}
+use Rattle.words.specs.Codec.{wordsIn, isBlank}
 use Rattle.row.specs.Layout.{versionOf, spareless}
 use Rattle.scan.specs.declared.join.Group.{Group}
 use Rattle.scan.specs.declared.join.Joined.{Joined}

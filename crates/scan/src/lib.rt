@@ -1,13 +1,13 @@
 // The soundness of a table: each row by itself, the order of the used ones, and nothing but zeros after them. One pass.
 use crate::join::Group;
 use crate::join::Joined;
-use row::ROW;
-use row::Words;
+use words::ROW;
+use words::Words;
 ghost use mathlib.Core.Path.{_≡_};
 ghost use Prim.Native.Nat.{_+_, _*_, _≤_};
 ghost use lib.ListN.{length, drop};
-ghost use Rattle.row.specs.Size.{ROW};
-ghost use Rattle.row.specs.Codec.{wordsIn, isBlank};
+ghost use Rattle.words.specs.Size.{ROW};
+ghost use Rattle.words.specs.Codec.{wordsIn, isBlank};
 ghost use Rattle.rows.specs.Place.{rowAt};
 ghost use Rattle.rows.specs.Table.{piecesOf};
 ghost use Rattle.scan.specs.Join.{start};
@@ -32,8 +32,8 @@ pub enum Soundness {
 fn admit(g: Group, w: Words) -> Joined
     ensures { λ j. ⌜ j ≡ admitOf g w ⌝ }
 {
-    if row::fields::spare_free(w) {
-        let v = row::fields::version_of(w);
+    if row::spare_free(w) {
+        let v = row::version_of(w);
         if sound::sound_version(v) {
             return join::follow(g, v);
         }

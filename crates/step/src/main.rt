@@ -75,10 +75,10 @@ fn print_row(table: &[u8], i: usize) -> bool {
         return false;
     }
     let w = rows::words(table, i);
-    if row::codec::blank(w) {
+    if words::blank(w) {
         return false;
     }
-    print_version(row::fields::version_of(w));
+    print_version(row::version_of(w));
     true
 }
 

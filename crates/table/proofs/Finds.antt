@@ -9,7 +9,7 @@ use native.Mathlib.Omega.{arith}
 use native.Mathlib.Numerals.{add-one}
 use borrow.Author.Tests.{lt-ltb, le-ltb}
 use lib.ListN.{length, getD, length-map}
-use Rattle.row.specs.Size.{ROW}
+use Rattle.words.specs.Size.{ROW}
 use Rattle.rows.specs.Place.{rowAt}
 use Rattle.rows.specs.Chunks.{chunks}
 use Rattle.table.specs.Find.{keyIn, keyAt, keysOf, Rises, past, lowerOf}

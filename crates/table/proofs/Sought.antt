@@ -11,7 +11,7 @@ use lib.ListN.{length, getD, length-map, replicate, List·getD-append}
 use lib.Seq.{ext-getD}
 use Rattle.model.specs.declared.Version.{Version}
 use Rattle.model.specs.Sound.{soundVersion}
-use Rattle.row.specs.Codec.{wordsIn, blank}
+use Rattle.words.specs.Codec.{wordsIn, blank}
 use Rattle.row.specs.Layout.{pack, unpack}
 use Rattle.row.proofs.Layouts.{room-fits}
 use Rattle.row.proofs.Rooms.{sound-room}

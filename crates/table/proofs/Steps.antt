@@ -12,7 +12,7 @@ use Rattle.model.specs.declared.Id.{Id}
 use Rattle.model.specs.declared.Version.{Version}
 use Rattle.model.specs.Table.{find, change, changes, put, add, strike}
 use Rattle.model.specs.Sound.{soundTable}
-use Rattle.row.specs.Size.{ROW}
+use Rattle.words.specs.Size.{ROW}
 use Rattle.row.specs.Layout.{pack}
 use Rattle.scan.specs.declared.Soundness.the-variants.{Sound}
 use Rattle.rows.specs.Place.{putRow, insRow, delRow}

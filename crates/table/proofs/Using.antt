@@ -11,7 +11,7 @@ use lib.Dec.{ltb}
 use lib.Seq.{getD-append-add}
 use borrow.Author.Tests.{ltb-true, ltb-false}
 use Rattle.model.specs.declared.Version.{Version}
-use Rattle.row.specs.Codec.{wordsIn, isBlank, blank}
+use Rattle.words.specs.Codec.{wordsIn, isBlank, blank}
 use Rattle.row.specs.Layout.{pack, unpack}
 use Rattle.row.proofs.Packs.{blank-free, pack-used}
 use Rattle.rows.specs.Place.{rowAt}

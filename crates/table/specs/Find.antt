@@ -6,8 +6,8 @@ use mathlib.Core.List.{List, [], _∷_, map}
 use lib.Dec.{ltb}
 use lib.ListN.{length, getD}
 use Rattle.model.specs.declared.Version.{Version}
-use Rattle.row.specs.Size.{ROW}
-use Rattle.row.specs.Codec.{wordsIn}
+use Rattle.words.specs.Size.{ROW}
+use Rattle.words.specs.Codec.{wordsIn}
 use Rattle.row.specs.Layout.{keyOf}
 use Rattle.rows.specs.Place.{rowAt}
 use Rattle.rows.specs.Chunks.{chunks}

@@ -1,10 +1,10 @@
 // How many rows of a sound table are used, seen from a place near the last of them.
-use row::ROW;
+use words::ROW;
 ghost use mathlib.Core.Path.{_≡_};
 ghost use Prim.Native.Nat.{_+_, _*_, _≤_, _<_};
 ghost use lib.ListN.{length};
-ghost use Rattle.row.specs.Size.{ROW};
-ghost use Rattle.row.specs.Codec.{wordsIn, isBlank};
+ghost use Rattle.words.specs.Size.{ROW};
+ghost use Rattle.words.specs.Codec.{wordsIn, isBlank};
 ghost use Rattle.rows.specs.Place.{rowAt};
 ghost use Rattle.rows.specs.Table.{decode};
 ghost use Rattle.scan.specs.Sound.{SoundTable, rowsIn};
@@ -14,7 +14,7 @@ fn free(t: &[u8], i: usize) -> bool
     ensures { λ r. ⌜ r ≡ isBlank (wordsIn (rowAt (now (t .entry)) i)) ⌝ }
 {
     let w = rows::words(t, i);
-    row::codec::blank(w)
+    words::blank(w)
 }
 
 // The first free row from a place on, or the number of rows.

@@ -1,10 +1,10 @@
 // The place of a name among the used rows, by halves.
 use model::Id;
-use row::ROW;
+use words::ROW;
 ghost use mathlib.Core.Path.{_≡_};
 ghost use Prim.Native.Nat.{_+_, _*_, _/_, _≤_, _<_};
 ghost use lib.ListN.{length};
-ghost use Rattle.row.specs.Size.{ROW};
+ghost use Rattle.words.specs.Size.{ROW};
 ghost use Rattle.row.specs.Layout.{keyOf};
 ghost use Rattle.rows.specs.Table.{decode};
 ghost use Rattle.scan.specs.Sound.{SoundTable};

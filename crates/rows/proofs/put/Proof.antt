@@ -5,8 +5,8 @@ use mathlib.Core.List.{List, _++_}
 use Prim.Native.Nat.{ℕ, _+_, _-_, _*_}
 use native.Mathlib.Omega.{arith}
 use lib.ListN.{take}
-use Rattle.row.specs.Size.{ROW}
-use Rattle.row.specs.Codec.{bytesOf}
+use Rattle.words.specs.Size.{ROW}
+use Rattle.words.specs.Codec.{bytesOf}
 use Rattle.rows.specs.Place.{putRow}
 use borrow.Author.Needs.{needs}
 use Rattle.rows.proofs.put.Statement.{statement}

@@ -1,6 +1,6 @@
 -- `rows::remove` meets its contract. Assumes nothing.
 use native.Mathlib.Omega.{arith}
-use Rattle.row.proofs.Spelling.{none-blank}
+use Rattle.words.proofs.Spelling.{none-blank}
 use Rattle.rows.proofs.Places.{del-law}
 use borrow.Author.Needs.{needs}
 use Rattle.rows.proofs.remove.Statement.{statement}

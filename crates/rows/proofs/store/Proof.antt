@@ -1,7 +1,7 @@
 -- `rows::store` meets its contract. Assumes nothing.
 use mathlib.Core.Path.{ap, _∙_}
-use Rattle.row.specs.declared.Words.{Words}
-use Rattle.row.specs.Codec.{bytesOf}
+use Rattle.words.specs.declared.Words.{Words}
+use Rattle.words.specs.Codec.{bytesOf}
 use Rattle.row.specs.Layout.{pack}
 use Rattle.rows.specs.Place.{putRow}
 use borrow.Author.Needs.{needs}

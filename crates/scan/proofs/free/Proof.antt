@@ -3,8 +3,8 @@ use mathlib.Core.Path.{ap, _∙_}
 use Prim.Native.Nat.{ℕ, _*_}
 use native.Mathlib.Nat.{add-sub-cancel-left}
 use lib.ListN.{take, drop}
-use Rattle.row.specs.Size.{ROW}
-use Rattle.row.specs.Codec.{wordsIn, isBlank}
+use Rattle.words.specs.Size.{ROW}
+use Rattle.words.specs.Codec.{wordsIn, isBlank}
 use Rattle.rows.specs.Place.{rowAt}
 use borrow.Author.Needs.{needs}
 use Rattle.scan.proofs.free.Statement.{statement}

@@ -1,5 +1,5 @@
 -- `scan::zeros` meets its contract. Assumes nothing.
-use Rattle.row.specs.Codec.{wordsIn, isBlank}
+use Rattle.words.specs.Codec.{wordsIn, isBlank}
 use borrow.Author.Needs.{needs}
 use Rattle.scan.proofs.zeros.Statement.{statement}
 use Rattle.scan.proofs.zeros.Tie as tie

@@ -1,5 +1,5 @@
 use mathlib.Core.Path.{ap, _∙_}
-use Rattle.row.specs.Codec.{isBlank}
+use Rattle.words.specs.Codec.{isBlank}
 use borrow.Author.Needs.{needs}
 use Rattle.table.proofs.count.free.Statement.{statement}
 use Rattle.table.proofs.count.free.Tie as tie

@@ -4,8 +4,8 @@ use Prim.Native.Nat.{ℕ, _*_, _/_}
 use native.Mathlib.Nat.{add-sub-cancel-left}
 use lib.ListN.{take, drop}
 use Rattle.octets.specs.Octets.{be}
-use Rattle.row.specs.Size.{ROW}
-use Rattle.row.specs.Codec.{wordsIn}
+use Rattle.words.specs.Size.{ROW}
+use Rattle.words.specs.Codec.{wordsIn}
 use Rattle.rows.specs.Place.{rowAt}
 use Rattle.table.specs.Find.{keyAt}
 use borrow.Author.Needs.{needs}

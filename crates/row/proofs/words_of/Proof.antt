@@ -1,8 +1,8 @@
 -- `fields::words_of` meets its contract. Assumes nothing.
 use Rattle.row.specs.Layout.{wordsOf}
 use borrow.Author.Needs.{needs}
-use Rattle.row.proofs.fields.words_of.Statement.{statement}
-use Rattle.row.proofs.fields.words_of.Tie as tie
+use Rattle.row.proofs.words_of.Statement.{statement}
+use Rattle.row.proofs.words_of.Tie as tie
 
 head-of-requires : tie.Need-head-of-requires
 head-of-requires c κs = search needs

@@ -1,8 +1,8 @@
 -- `codec::put` meets its contract. Assumes nothing.
-use Rattle.row.proofs.Spelling.{fill}
+use Rattle.words.proofs.Spelling.{fill}
 use borrow.Author.Needs.{needs}
-use Rattle.row.proofs.codec.put.Statement.{statement}
-use Rattle.row.proofs.codec.put.Tie as tie
+use Rattle.words.proofs.put.Statement.{statement}
+use Rattle.words.proofs.put.Tie as tie
 
 put-first-requires : tie.Need-put-first-requires
 put-first-requires c κs = search needs

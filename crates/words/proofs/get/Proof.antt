@@ -1,8 +1,8 @@
 -- `codec::get` meets its contract. Assumes nothing.
-use Rattle.row.specs.Codec.{wordsIn}
+use Rattle.words.specs.Codec.{wordsIn}
 use borrow.Author.Needs.{needs}
-use Rattle.row.proofs.codec.get.Statement.{statement}
-use Rattle.row.proofs.codec.get.Tie as tie
+use Rattle.words.proofs.get.Statement.{statement}
+use Rattle.words.proofs.get.Tie as tie
 
 u64-at-requires : tie.Need-u64-at-requires
 u64-at-requires c κs = search needs

@@ -9,9 +9,9 @@ use lib.ListN.{length, getD, take, drop, length-append, drop-of-length-le}
 use lib.Seq.{split-at, drop-drop, take-add, take-all, length-take-le}
 use Rattle.octets.specs.Octets.{Bytes, be, digits}
 use Rattle.octets.specs.Laws.{length-digits, be-digits, digits-be, be-word, put-after}
-use Rattle.row.specs.declared.Words.{Words}
-use Rattle.row.specs.Size.{ROW}
-use Rattle.row.specs.Codec.{wordsIn, spelt, stored, firstOf, lastOf, bytesOf, noWords, blank}
+use Rattle.words.specs.declared.Words.{Words}
+use Rattle.words.specs.Size.{ROW}
+use Rattle.words.specs.Codec.{wordsIn, spelt, stored, firstOf, lastOf, bytesOf, noWords, blank}
 
 pub spelt-append : (xs ys : List ℕ) → spelt (xs ++ ys) ≡ spelt xs ++ spelt ys
 spelt-append [] ys = refl

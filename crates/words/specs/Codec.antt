@@ -6,8 +6,8 @@ use Prim.Native.Nat.{ℕ, _+_}
 use lib.Dec.{eqb}
 use lib.ListN.{replicate}
 use Rattle.octets.specs.Octets.{be, digits, put}
-use Rattle.row.specs.declared.Words.{Words}
-use Rattle.row.specs.Size.{ROW}
+use Rattle.words.specs.declared.Words.{Words}
+use Rattle.words.specs.Size.{ROW}
 
 unfoldable pub wordsIn : List ℕ → Words
 wordsIn b = record {

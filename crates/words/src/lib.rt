@@ -1,10 +1,30 @@
 // Ten words in a slice of ROW bytes.
-use crate::ROW;
-use crate::Words;
 ghost use mathlib.Core.Path.{_≡_};
 ghost use lib.ListN.{length};
-ghost use Rattle.row.specs.Size.{ROW};
-ghost use Rattle.row.specs.Codec.{wordsIn, bytesOf, stored, firstOf, lastOf, isBlank, noWords};
+ghost use Rattle.words.specs.Size.{ROW};
+ghost use Rattle.words.specs.Codec.{wordsIn, bytesOf, stored, firstOf, lastOf, isBlank, noWords};
+
+// The size of a row in bytes.
+pub const ROW: usize = 80;
+
+// The ten words of a row, every bit kept.
+pub struct Words {
+    // TN, number, status, live, new side created, old side created, window run out.
+    pub head: u64,
+    // LRN, new and old provider, authorization, cause, canceller, purpose.
+    pub terms: u64,
+    // New due, old due.
+    pub dues: u64,
+    // Stamp, broadcast start.
+    pub times: u64,
+    pub confirmed: u64,
+    pub waiting: u64,
+    pub failed: u64,
+    // Retries used.
+    pub low: u64,
+    pub mid: u64,
+    pub high: u64,
+}
 
 pub fn get(b: &[u8]) -> Words
     requires { ⌜ length (now b) ≡ ROW ⌝ }

@@ -1,8 +1,8 @@
 -- `fields::version_of` meets its contract. Assumes nothing.
 use Rattle.row.specs.Layout.{versionOf}
 use borrow.Author.Needs.{needs}
-use Rattle.row.proofs.fields.version_of.Statement.{statement}
-use Rattle.row.proofs.fields.version_of.Tie as tie
+use Rattle.row.proofs.version_of.Statement.{statement}
+use Rattle.row.proofs.version_of.Tie as tie
 
 id-of-requires : tie.Need-id-of-requires
 id-of-requires c κs = search needs

@@ -1,8 +1,8 @@
 -- `fields::spare_free` meets its contract. Assumes nothing.
 use Rattle.row.specs.Layout.{spareless}
 use borrow.Author.Needs.{needs}
-use Rattle.row.proofs.fields.spare_free.Statement.{statement}
-use Rattle.row.proofs.fields.spare_free.Tie as tie
+use Rattle.row.proofs.spare_free.Statement.{statement}
+use Rattle.row.proofs.spare_free.Tie as tie
 
 returns : tie.Need-returns
 unfolding spareless

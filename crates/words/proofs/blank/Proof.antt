@@ -1,8 +1,8 @@
 -- `codec::blank` meets its contract. Assumes nothing.
 use borrow.Author.Tests.{eq-eqb, ne-eqb}
-use Rattle.row.specs.Codec.{isBlank}
-use Rattle.row.proofs.codec.blank.Statement.{statement}
-use Rattle.row.proofs.codec.blank.Tie as tie
+use Rattle.words.specs.Codec.{isBlank}
+use Rattle.words.proofs.blank.Statement.{statement}
+use Rattle.words.proofs.blank.Tie as tie
 
 returns : tie.Need-returns
 unfolding isBlank

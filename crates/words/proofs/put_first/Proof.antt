@@ -1,7 +1,7 @@
 -- `codec::put_first` meets its contract. Assumes nothing.
 use borrow.Author.Needs.{needs}
-use Rattle.row.proofs.codec.put_first.Statement.{statement}
-use Rattle.row.proofs.codec.put_first.Tie as tie
+use Rattle.words.proofs.put_first.Statement.{statement}
+use Rattle.words.proofs.put_first.Tie as tie
 
 put-u64-requires : tie.Need-put-u64-requires
 put-u64-requires c κs = search needs
