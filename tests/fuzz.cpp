@@ -99,7 +99,10 @@ void stir(Dice &d, Bytes &bytes) {
         case 4: std::memmove(bytes.data() + i, bytes.data() + j, length); break;
         case 5: std::memset(bytes.data() + i, d.chance(60) ? 0 : 255, length); break;
         case 6: bytes.resize(d.chance(50) ? i : bytes.size() - std::min<size_t>(bytes.size(), 1)); break;
-        default: bytes.resize(bytes.size() + d.between(1, 90), uint8_t(d.chance(70) ? 0 : d.next()));
+        default: {
+            uint8_t with = uint8_t(d.chance(70) ? 0 : d.next());
+            bytes.resize(bytes.size() + d.between(1, 90), with);
+        }
         }
     }
 }
@@ -114,7 +117,11 @@ void wild(Dice &d, Input &in) {
     uint64_t which = d.below(5);
     if (which == 0) in.table = anyBytes(d, d.chance(70) ? ROW * d.below(9) : d.below(700));
     if (which == 1) in.books = anyBytes(d, d.chance(70) ? BOOKS : d.below(9000));
-    if (which == 2) in.providers = d.chance(50) ? anyBytes(d, d.below(70)) : Bytes(d.below(70), uint8_t(d.below(5)));
+    if (which == 2 && d.chance(50)) in.providers = anyBytes(d, d.below(70));
+    else if (which == 2) {
+        uint8_t each = uint8_t(d.below(5));
+        in.providers.assign(d.below(70), each);
+    }
     if (which == 3) in.event = anyBytes(d, d.chance(80) ? RECORD : d.below(60));
     if (which == 4) in.table.assign(ROW * (d.chance(50) ? 4097 : 4096) - (d.chance(20) ? 1 : 0), 0);
 }
@@ -206,7 +213,10 @@ Bytes makeRun(Dice &d, const Situation &s, Input &in) {
         in.event.insert(d.chance(50) ? in.event.begin() : in.event.end(), record.begin(), record.end());
     }
     if (d.chance(90)) in.event.resize(in.event.size() / RECORD * RECORD);
-    if (d.chance(50)) in.tray.resize(in.tray.size() + d.below(30 * MESSAGE), uint8_t(d.next()));
+    if (d.chance(50)) {
+        uint8_t with = uint8_t(d.next());
+        in.tray.resize(in.tray.size() + d.below(30 * MESSAGE), with);
+    }
     size_t need = in.event.size() / RECORD * 2;
     return anyBytes(d, d.chance(60) ? need : d.chance(50) ? need + d.below(40) : d.below(need + 1));
 }

@@ -1,8 +1,7 @@
 /*
  * The cases of tests/record_vectors.py once more, by the calls for C. In the repository's folder:
  *
- *     rt staticlib lupinenblatt
- *     cc -std=c99 -Wall -Wextra -pedantic -Iinclude tests/record_calls.c target/staticlib/liblupinenblatt.a -o target/record_calls
+ *     cc -std=c99 -Wall -Wextra -pedantic -Iinclude tests/record_calls.c "$(examples/library)" -o target/record_calls
  *     target/record_calls < crates/records/stdin | cmp - crates/records/stdout
  *
  * It writes what the program crates/records writes; cmp says nothing where both agree.
