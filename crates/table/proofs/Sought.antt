@@ -23,7 +23,7 @@ use Rattle.scan.specs.Sound.{SoundTable, rowsIn}
 use Rattle.rows.proofs.Lists.{getD-map}
 use Rattle.rows.proofs.Sounds.{AllSound, sound-at, RisingFrom}
 use Rattle.rows.proofs.Tables.{rows-at, rows-encode, row-encode, encode-length}
-use Rattle.table.proofs.Finds.{keys-length, keys-at}
+use Rattle.table.proofs.Finds.{keys-length, keys-at, lower-le}
 use Rattle.scan.proofs.Meant.{Good, table-good}
 use Rattle.table.proofs.Changed.{rises-at}
 
@@ -59,27 +59,9 @@ keys-rise : (vs : List Version) → RisingFrom 0 vs → (p q : ℕ) → p < q �
 keys-rise vs r p q l h =
     rw (getD-map keyFor vs p (unpack []) 0 (lt-trans l h), getD-map keyFor vs q (unpack []) 0 h) (rises-at vs 0 p q r l h)
 
-past-le : (b : Bool) (m n : ℕ) → m ≤ n → past b m ≤ suc n
-past-le true m n h = suc-le-suc h
-past-le false m n h = zero-le
-
-lower-le : (k : ℕ) (xs : List ℕ) → lowerOf k xs ≤ length xs
-unfolding lowerOf
-lower-le k [] = zero-le
-lower-le k (x ∷ xs) = past-le (ltb x k) (lowerOf k xs) (length xs) (lower-le k xs)
-
 pub place-le : (k : ℕ) (vs : List Version) → placeIn k vs ≤ length vs
 unfolding placeIn
 place-le k vs = subst (λ (j : ℕ). lowerOf k (keys vs) ≤ j) (length-map vs keyFor) (lower-le k (keys vs))
-
--- the keys of sound versions have 50 bits
-all-below : (vs : List Version) (k : ℕ) → AllSound vs → 1125899906842624 ≤ k → lowerOf k (keys vs) ≡ length vs
-unfolding lowerOf
-all-below [] k a h = refl
-all-below (v ∷ vs) k a h =
-    let r = sound-room v (a .0) in
-    let l : keyFor v < k = omega (arith, r .small .tn, r .number) in
-    ap (λ (b : Bool). past b (lowerOf k (keys vs))) (lt-ltb (keyFor v) k l) ∙ ap suc (all-below vs k (a .1) h)
 
 module _ (t : List ℕ) (n : ℕ) (s : SoundTable t n) where
   pub sound-good : Good (rowsIn t) (decode t)
@@ -97,11 +79,6 @@ module _ (t : List ℕ) (n : ℕ) (s : SoundTable t n) where
   pub sound-place : (k : ℕ) → lowerOf k (keysOf n t) ≡ placeIn k (decode t)
   unfolding placeIn
   sound-place k = ap (lowerOf k) sound-keys
-
-  -- a number that no key reaches is behind all of them
-  pub sound-behind : (k : ℕ) → 1125899906842624 ≤ k → n ≡ placeIn k (decode t)
-  unfolding placeIn
-  sound-behind k h = sym (all-below (decode t) k (sound-good .sound) h ∙ s .count)
 
   -- what `load` reads of a sound table
   pub sound-load : (i : ℕ) (d : Version) → i < n → unpack (rowAt t i) ≡ getD (decode t) i d

@@ -2,6 +2,8 @@
 use model::Id;
 use words::ROW;
 ghost use mathlib.Core.Path.{_≡_};
+ghost use mathlib.Core.Bool.{cond};
+ghost use lib.Dec.{ltb};
 ghost use Prim.Native.Nat.{_+_, _*_, _/_, _≤_, _<_};
 ghost use lib.ListN.{length};
 ghost use Rattle.words.specs.Size.{ROW};
@@ -20,36 +22,67 @@ fn first(t: &[u8], i: usize) -> u64
     octets::u64_at(&t[a..e], 0)
 }
 
-// The place of the first of n rows whose key is at least k, or n. The words are compared whole: so each is read with one load.
+// 1 where the key of row i is below k, or 0; least is k at its place in a word's highest 63 bits. Without a branch, since either way is as likely.
+fn below(t: &[u8], i: usize, k: u64, least: u64) -> usize
+    requires { ⌜ (i * ROW + ROW ≤ length (now t)) × (least ≡ k * 8192) × (k < 1125899906842624) ⌝ }
+    ensures { λ r. ⌜ r ≡ cond (ltb (keyAt (now (t .entry)) i) k) 1 0 ⌝ }
+{
+    let w = first(t, i);
+    ((least + 0x7fff_ffff_ffff_ffff - w / 2) / 0x8000_0000_0000_0000) as usize
+}
+
+// The place of the first of n rows whose key is at least k, or n.
 fn lower(t: &[u8], n: usize, k: u64) -> usize
     requires { ⌜ n * ROW ≤ length (now t) ⌝ }
     requires { ⌜ Rises (keysOf n (now t)) ⌝ }
     requires { ⌜ k < 1125899906842624 ⌝ }
     ensures { λ r. ⌜ r ≡ lowerOf k (keysOf n (now (t .entry))) ⌝ }
 {
-    let least = k * 16384;
+    let least = k * 8192;
     let mut lo = 0;
-    let mut hi = n;
-    while lo < hi {
-        let mid = lo + (hi - lo) / 2;
-        if first(t, mid) < least {
-            lo = mid + 1;
-        } else {
-            hi = mid;
-        }
+    let mut left = n;
+    while 1 < left {
+        let half = left / 2;
+        let up = below(t, lo + half - 1, k, least);
+        lo += half * up;
+        left -= half;
     }
-    lo
+    if left == 0 {
+        return lo;
+    }
+    lo + below(t, lo, k, least)
 }
 
-// The place of the first version whose key is at least k, among the n of a sound table: behind all of them where k is no key.
-pub fn from_key(t: &[u8], n: usize, k: u64) -> usize
-    requires { ⌜ SoundTable (now t) n ⌝ }
-    ensures { λ r. ⌜ r ≡ placeIn k (decode (now (t .entry))) ⌝ }
+// The place of the first of n rows from i on whose number is above tn, or n.
+fn behind(t: &[u8], n: usize, tn: u64, i: usize) -> usize
+    requires { ⌜ (n * ROW ≤ length (now t)) × (i ≤ lowerOf ((tn + 1) * 65536) (keysOf n (now t))) ⌝ }
+    ensures { λ r. ⌜ r ≡ lowerOf ((tn + 1) * 65536) (keysOf n (now (t .entry))) ⌝ }
 {
-    if k < 1125899906842624 {
-        return lower(t, n, k);
+    let mut at = i;
+    while at < n {
+        if tn < first(t, at) / 1073741824 {
+            return at;
+        }
+        at += 1;
     }
-    n
+    at
+}
+
+// Where the versions of a number are: the first, and the place behind the last.
+pub struct Span {
+    pub from: usize,
+    pub to: usize,
+}
+
+// The versions of a number are few: the place behind them is found from the first on.
+pub fn versions(t: &[u8], n: usize, tn: u64) -> Span
+    requires { ⌜ SoundTable (now t) n ⌝ }
+    requires { ⌜ tn < 17179869184 ⌝ }
+    ensures { λ r. ⌜ (r .from ≡ placeIn (tn * 65536) (decode (now (t .entry)))) × (r .to ≡ placeIn ((tn + 1) * 65536) (decode (now (t .entry)))) ⌝ }
+{
+    let from = lower(t, n, tn * 65536);
+    let to = behind(t, n, tn, from);
+    Span { from, to }
 }
 
 // Where the version of that name is, or would be.
@@ -58,5 +91,5 @@ pub fn place(t: &[u8], n: usize, k: Id) -> usize
     requires { ⌜ k .tn .0 < 17179869184 ⌝ }
     ensures { λ r. ⌜ r ≡ placeIn (keyOf k) (decode (now (t .entry))) ⌝ }
 {
-    from_key(t, n, k.tn.0 * 65536 + k.number as u64)
+    lower(t, n, k.tn.0 * 65536 + k.number as u64)
 }

@@ -199,8 +199,7 @@ pub fn number(t: &[u8], n: usize, k: Id) -> Facts
     requires { ⌜ k .tn .0 < 17179869184 ⌝ }
     ensures { λ r. ⌜ Surveyed (decode (now (t .entry))) k r ⌝ }
 {
-    let from = find::from_key(t, n, k.tn.0 * 65536);
-    let to = find::from_key(t, n, (k.tn.0 + 1) * 65536);
-    let s = over(t, n, empty(), k, from, to);
+    let at = find::versions(t, n, k.tn.0);
+    let s = over(t, n, empty(), k, at.from, at.to);
     shown(t, n, s)
 }
