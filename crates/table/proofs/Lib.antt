@@ -3,7 +3,6 @@ pub mod Lists
 pub mod Moves
 pub mod Pieces
 pub mod Places
-pub mod Joins
 pub mod Admits
 pub mod Sounds
 pub mod Tables
@@ -20,3 +19,4 @@ pub mod Steps
 pub mod Asked
 pub mod Using
 pub mod OneAnswer
+pub mod Carries

@@ -6,3 +6,4 @@ pub mod Sound
 pub mod Find
 pub mod Survey
 pub mod Change
+pub mod Carried

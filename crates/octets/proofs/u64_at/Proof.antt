@@ -7,20 +7,13 @@ use Rattle.octets.proofs.Turns.{turned-le}
 use borrow.Author.Needs.{needs}
 use Rattle.octets.proofs.u64_at.Statement.{statement}
 use Rattle.octets.proofs.u64_at.Tie as tie
-use Rattle.octets.proofs.u64_at.Reads as reads
-use Rattle.octets.proofs.u64_at.Lts as lts
-use Rattle.octets.proofs.first_lowest.Reads as first-lowest-reads
-use Rattle.octets.proofs.turn.Reads as turn-reads
 
--- src/lib.rt:61:10
 first-lowest-requires : tie.Need-first-lowest-requires
 first-lowest-requires c κs = search needs
 
--- src/lib.rt:61:5
 turn-requires : tie.Need-turn-requires
 turn-requires c κs = search needs
 
--- src/lib.rt:57:1
 returns : tie.Need-returns
 returns c =
     let a = c .before .before .before .args in

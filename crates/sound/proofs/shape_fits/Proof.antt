@@ -6,38 +6,27 @@ use Rattle.sound.proofs.Clauses.{outline-status, outline-purpose}
 use borrow.Author.Needs.{needs}
 use Rattle.sound.proofs.shape_fits.Statement.{statement}
 use Rattle.sound.proofs.shape_fits.Tie as tie
-use Rattle.sound.proofs.shape_fits.Reads as reads
-use Rattle.sound.proofs.shape_fits.Lts as lts
-use Rattle.sound.proofs.marks.marks_fit.Reads as marks-fit-reads
-use Rattle.sound.proofs.ranges.outline_fits.Reads as outline-fits-reads
-use Rattle.sound.proofs.sides.sides_fit.Reads as sides-fit-reads
 
--- src/lib.rt:16:9
 outline-fits-requires : tie.Need-outline-fits-requires
 outline-fits-requires c κs = search needs
 
--- src/lib.rt:17:9
 returns : tie.Need-returns
 unfolding shapeFits
 returns c = rw (sym (c .before .outline-fits .ensures) ∙ not-true (c .before .outline-fits .result) (c .if1 .taken))
 
--- src/lib.rt:19:9
 marks-fit-requires : tie.Need-marks-fit-requires
 marks-fit-requires c κs =
     let v = c .before .before .args .v in
     let e = sym (c .before .outline-fits .ensures) ∙ not-false (c .before .outline-fits .result) (c .if1 .left) in
     (leb-true _ _ (outline-status v e), leb-true _ _ (outline-purpose v e))
 
--- src/lib.rt:20:9
 returns-2 : tie.Need-returns-2
 unfolding shapeFits
 returns-2 c = rw (sym (c .before .before .before .outline-fits .ensures) ∙ not-false (c .before .before .before .outline-fits .result) (c .before .before .if1 .left), sym (c .before .marks-fit .ensures) ∙ not-true (c .before .marks-fit .result) (c .if2 .taken))
 
--- src/lib.rt:22:5
 sides-fit-requires : tie.Need-sides-fit-requires
 sides-fit-requires c κs = search needs
 
--- src/lib.rt:13:1
 returns-3 : tie.Need-returns-3
 unfolding shapeFits
 returns-3 c = rw (sym (c .before .before .before .before .outline-fits .ensures) ∙ not-false (c .before .before .before .before .outline-fits .result) (c .before .before .before .if1 .left), sym (c .before .before .marks-fit .ensures) ∙ not-false (c .before .before .marks-fit .result) (c .before .if2 .left)) (c .sides-fit .ensures)

@@ -5,24 +5,16 @@ use Rattle.sound.proofs.Clauses.{sound-order}
 use borrow.Author.Needs.{needs}
 use Rattle.sound.proofs.sound_version.Statement.{statement}
 use Rattle.sound.proofs.sound_version.Tie as tie
-use Rattle.sound.proofs.sound_version.Reads as reads
-use Rattle.sound.proofs.sound_version.Lts as lts
-use Rattle.sound.proofs.cast.cast_fits.Reads as cast-fits-reads
-use Rattle.sound.proofs.shape_fits.Reads as shape-fits-reads
 
--- src/lib.rt:28:9
 shape-fits-requires : tie.Need-shape-fits-requires
 shape-fits-requires c κs = search needs
 
--- src/lib.rt:29:9
 returns : tie.Need-returns
 returns c = sym (sound-order (c .before .before .args .v) ∙ rw (sym (c .before .shape-fits .ensures) ∙ not-true (c .before .shape-fits .result) (c .if1 .taken)))
 
--- src/lib.rt:31:5
 cast-fits-requires : tie.Need-cast-fits-requires
 cast-fits-requires c κs = search needs
 
--- src/lib.rt:25:1
 returns-2 : tie.Need-returns-2
 returns-2 c = c .cast-fits .ensures ∙ sym (sound-order (c .before .before .before .args .v) ∙ rw (sym (c .before .before .shape-fits .ensures) ∙ not-false (c .before .before .shape-fits .result) (c .before .if1 .left)))
 

@@ -5,45 +5,31 @@ use Rattle.sound.specs.Order.{castFits}
 use borrow.Author.Needs.{needs}
 use Rattle.sound.proofs.cast.cast_fits.Statement.{statement}
 use Rattle.sound.proofs.cast.cast_fits.Tie as tie
-use Rattle.sound.proofs.cast.cast_fits.Reads as reads
-use Rattle.sound.proofs.cast.cast_fits.Lts as lts
-use Rattle.sound.proofs.cast.live_confirmed.Reads as live-confirmed-reads
-use Rattle.sound.proofs.cast.retries_sound.Reads as retries-sound-reads
-use Rattle.sound.proofs.cast.sets_fit.Reads as sets-fit-reads
-use Rattle.sound.proofs.cast.times_fit.Reads as times-fit-reads
 
--- src/cast.rt:119:9
 times-fit-requires : tie.Need-times-fit-requires
 times-fit-requires c κs = search needs
 
--- src/cast.rt:120:9
 returns : tie.Need-returns
 unfolding castFits
 returns c = rw (sym (c .before .times-fit .ensures) ∙ not-true (c .before .times-fit .result) (c .if1 .taken))
 
--- src/cast.rt:122:9
 sets-fit-requires : tie.Need-sets-fit-requires
 sets-fit-requires c κs = search needs
 
--- src/cast.rt:123:9
 returns-2 : tie.Need-returns-2
 unfolding castFits
 returns-2 c = rw (sym (c .before .before .before .times-fit .ensures) ∙ not-false (c .before .before .before .times-fit .result) (c .before .before .if1 .left), sym (c .before .sets-fit .ensures) ∙ not-true (c .before .sets-fit .result) (c .if2 .taken))
 
--- src/cast.rt:125:9
 live-confirmed-requires : tie.Need-live-confirmed-requires
 live-confirmed-requires c κs = search needs
 
--- src/cast.rt:126:9
 returns-3 : tie.Need-returns-3
 unfolding castFits
 returns-3 c = rw (sym (c .before .before .before .before .before .times-fit .ensures) ∙ not-false (c .before .before .before .before .before .times-fit .result) (c .before .before .before .before .if1 .left), sym (c .before .before .before .sets-fit .ensures) ∙ not-false (c .before .before .before .sets-fit .result) (c .before .before .if2 .left), sym (c .before .live-confirmed .ensures) ∙ not-true (c .before .live-confirmed .result) (c .if3 .taken))
 
--- src/cast.rt:128:5
 retries-sound-requires : tie.Need-retries-sound-requires
 retries-sound-requires c κs = search needs
 
--- src/cast.rt:115:1
 returns-4 : tie.Need-returns-4
 unfolding castFits
 returns-4 c = rw (sym (c .before .before .before .before .before .before .times-fit .ensures) ∙ not-false (c .before .before .before .before .before .before .times-fit .result) (c .before .before .before .before .before .if1 .left), sym (c .before .before .before .before .sets-fit .ensures) ∙ not-false (c .before .before .before .before .sets-fit .result) (c .before .before .before .if2 .left), sym (c .before .before .live-confirmed .ensures) ∙ not-false (c .before .before .live-confirmed .result) (c .before .if3 .left)) (c .retries-sound .ensures)

@@ -3,28 +3,19 @@ use Rattle.sound.specs.Order.{setsFit}
 use borrow.Author.Needs.{needs}
 use Rattle.sound.proofs.cast.sets_fit.Statement.{statement}
 use Rattle.sound.proofs.cast.sets_fit.Tie as tie
-use Rattle.sound.proofs.cast.sets_fit.Reads as reads
-use Rattle.sound.proofs.cast.sets_fit.Lts as lts
-use Rattle.sound.proofs.cast.sets_apart.Reads as sets-apart-reads
-use Rattle.sound.proofs.ranges.is_set.Reads as is-set-reads
 
--- src/cast.rt:81:5
 is-set-requires : tie.Need-is-set-requires
 is-set-requires c κs = search needs
 
--- src/cast.rt:82:11
 is-set-requires-2 : tie.Need-is-set-requires-2
 is-set-requires-2 c κs = search needs
 
--- src/cast.rt:83:11
 is-set-requires-3 : tie.Need-is-set-requires-3
 is-set-requires-3 c κs = search needs
 
--- src/cast.rt:84:11
 sets-apart-requires : tie.Need-sets-apart-requires
 sets-apart-requires c κs = search needs
 
--- src/cast.rt:78:1
 returns : tie.Need-returns
 unfolding setsFit
 returns c = rw (c .before .before .before .is-set .ensures, c .before .before .is-set2 .ensures, c .before .is-set3 .ensures, c .sets-apart .ensures)

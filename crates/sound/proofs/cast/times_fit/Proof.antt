@@ -3,29 +3,19 @@ use Rattle.sound.specs.Order.{timesFit}
 use borrow.Author.Needs.{needs}
 use Rattle.sound.proofs.cast.times_fit.Statement.{statement}
 use Rattle.sound.proofs.cast.times_fit.Tie as tie
-use Rattle.sound.proofs.cast.times_fit.Reads as reads
-use Rattle.sound.proofs.cast.times_fit.Lts as lts
-use Rattle.sound.proofs.cast.start_fits.Reads as start-fits-reads
-use Rattle.sound.proofs.cast.waiting_fits.Reads as waiting-fits-reads
-use Rattle.sound.proofs.ranges.is_time.Reads as is-time-reads
 
--- src/cast.rt:110:18
 cast-start : tie.Need-cast-start
 cast-start c = search needs
 
--- src/cast.rt:111:5
 is-time-requires : tie.Need-is-time-requires
 is-time-requires c κs = search needs
 
--- src/cast.rt:111:40
 start-fits-requires : tie.Need-start-fits-requires
 start-fits-requires c κs = search needs
 
--- src/cast.rt:111:56
 waiting-fits-requires : tie.Need-waiting-fits-requires
 waiting-fits-requires c κs = search needs
 
--- src/cast.rt:107:1
 returns : tie.Need-returns
 unfolding timesFit
 returns c = rw (c .before .before .is-time .ensures, c .before .start-fits .ensures, c .waiting-fits .ensures)

@@ -5,25 +5,17 @@ use Rattle.sound.specs.Order.{retriesSound}
 use borrow.Author.Needs.{needs}
 use Rattle.sound.proofs.cast.used_fit.Statement.{statement}
 use Rattle.sound.proofs.cast.used_fit.Tie as tie
-use Rattle.sound.proofs.cast.used_fit.Reads as reads
-use Rattle.sound.proofs.cast.used_fit.Lts as lts
-use Rattle.sound.proofs.cast.all_wait.Reads as all-wait-reads
-use Rattle.sound.proofs.ranges.retries_in_range.Reads as retries-in-range-reads
 
--- src/cast.rt:63:9
 retries-in-range-requires : tie.Need-retries-in-range-requires
 retries-in-range-requires c κs = search needs
 
--- src/cast.rt:64:9
 returns : tie.Need-returns
 unfolding retriesSound
 returns c = rw (sym (c .before .retries-in-range .ensures) ∙ not-true (c .before .retries-in-range .result) (c .if1 .taken))
 
--- src/cast.rt:66:5
 all-wait-requires : tie.Need-all-wait-requires
 all-wait-requires c κs = search needs
 
--- src/cast.rt:59:1
 returns-2 : tie.Need-returns-2
 unfolding retriesSound
 returns-2 c = rw (sym (c .before .before .retries-in-range .ensures) ∙ not-false (c .before .before .retries-in-range .result) (c .before .if1 .left)) (c .all-wait .ensures)

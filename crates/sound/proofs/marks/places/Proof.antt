@@ -5,55 +5,43 @@ use Rattle.sound.proofs.Fitting.{above}
 use Rattle.sound.specs.Marks.{fitting}
 use Rattle.sound.proofs.marks.places.Statement.{statement}
 use Rattle.sound.proofs.marks.places.Tie as tie
-use Rattle.sound.proofs.marks.places.Reads as reads
-use Rattle.sound.proofs.marks.places.Lts as lts
 
--- src/marks.rt:11:1
 returns : tie.Need-returns
 unfolding fitting
 returns c = simp (c .match .keys1)
 
--- src/marks.rt:11:1
 returns-2 : tie.Need-returns-2
 unfolding fitting
 returns-2 c = simp (c .match .keys2)
 
--- src/marks.rt:11:1
 returns-3 : tie.Need-returns-3
 unfolding fitting
 returns-3 c = simp (c .match .keys3)
 
--- src/marks.rt:11:1
 returns-4 : tie.Need-returns-4
 unfolding fitting
 returns-4 c = simp (c .match .keys4)
 
--- src/marks.rt:11:1
 returns-5 : tie.Need-returns-5
 unfolding fitting
 returns-5 c = simp (c .match .keys5)
 
--- src/marks.rt:11:1
 returns-6 : tie.Need-returns-6
 unfolding fitting
 returns-6 c = simp (c .match .keys6)
 
--- src/marks.rt:11:1
 returns-7 : tie.Need-returns-7
 unfolding fitting
 returns-7 c = simp (c .match .keys7)
 
--- src/marks.rt:11:1
 returns-8 : tie.Need-returns-8
 unfolding fitting
 returns-8 c = simp (c .match .keys8)
 
--- src/marks.rt:11:1
 returns-9 : tie.Need-returns-9
 unfolding fitting
 returns-9 c = simp (c .match .keys9)
 
--- src/marks.rt:11:1
 returns-10 : tie.Need-returns-10
 returns-10 c =
     let s = c .before .args .status in

@@ -4,10 +4,7 @@ use Rattle.model.specs.Sound.{causeFits}
 use Rattle.sound.proofs.Created.{cause-no}
 use Rattle.sound.proofs.sides.cause_fits.Statement.{statement}
 use Rattle.sound.proofs.sides.cause_fits.Tie as tie
-use Rattle.sound.proofs.sides.cause_fits.Reads as reads
-use Rattle.sound.proofs.sides.cause_fits.Lts as lts
 
--- src/sides.rt:31:1
 returns : tie.Need-returns
 unfolding causeFits
 returns c =

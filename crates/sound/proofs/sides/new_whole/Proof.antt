@@ -4,15 +4,10 @@ use Rattle.sound.proofs.Created.{new-created}
 use borrow.Author.Needs.{needs}
 use Rattle.sound.proofs.sides.new_whole.Statement.{statement}
 use Rattle.sound.proofs.sides.new_whole.Tie as tie
-use Rattle.sound.proofs.sides.new_whole.Reads as reads
-use Rattle.sound.proofs.sides.new_whole.Lts as lts
-use Rattle.sound.proofs.ranges.ten_digits.Reads as ten-digits-reads
 
--- src/sides.rt:22:25
 ten-digits-requires : tie.Need-ten-digits-requires
 ten-digits-requires c κs = search needs
 
--- src/sides.rt:17:1
 returns : tie.Need-returns
 unfolding newWhole
 returns c =

@@ -4,10 +4,7 @@ use Rattle.model.specs.Sound.{oldWhole}
 use Rattle.sound.proofs.Created.{old-created}
 use Rattle.sound.proofs.sides.old_whole.Statement.{statement}
 use Rattle.sound.proofs.sides.old_whole.Tie as tie
-use Rattle.sound.proofs.sides.old_whole.Reads as reads
-use Rattle.sound.proofs.sides.old_whole.Lts as lts
 
--- src/sides.rt:25:1
 returns : tie.Need-returns
 unfolding oldWhole
 returns c =
