@@ -1,8 +1,8 @@
 // Big-endian words in a slice of bytes, at an offset.
 ghost use mathlib.Core.Path.{_≡_};
-ghost use Prim.Native.Nat.{_+_, _≤_, _<_};
+ghost use Prim.Native.Nat.{_+_, _%_, _≤_, _<_};
 ghost use lib.ListN.{length};
-ghost use Rattle.octets.specs.Octets.{be, put};
+ghost use Rattle.octets.specs.Octets.{be, le, turned, put};
 
 // A byte as a word.
 fn wide(x: u8) -> u64
@@ -11,10 +11,18 @@ fn wide(x: u8) -> u64
     x as u64
 }
 
-// The eight bytes from `at` as a number. In two halves: a sum of eight in one row is compiled to eight loads, and this to one.
-pub fn u64_at(s: &[u8], at: usize) -> u64
+// The lowest byte of a word.
+fn low(x: u64) -> u64
+    ensures { λ r. ⌜ (r ≡ x % 256) × (r < 256) ⌝ }
+{
+    x % 256
+}
+
+// The eight bytes from `at` as a number whose lowest byte is the first. In two halves: a sum of eight in one row is compiled to eight
+// loads, and this to one.
+fn first_lowest(s: &[u8], at: usize) -> u64
     requires { ⌜ at + 8 ≤ length (now s) ⌝ }
-    ensures { λ r. ⌜ r ≡ be 8 (now (s .entry)) at ⌝ }
+    ensures { λ r. ⌜ r ≡ le 8 (now (s .entry)) at 0 ⌝ }
 {
     let b0 = wide(s[at]);
     let b1 = wide(s[at + 1]);
@@ -24,8 +32,33 @@ pub fn u64_at(s: &[u8], at: usize) -> u64
     let b5 = wide(s[at + 5]);
     let b6 = wide(s[at + 6]);
     let b7 = wide(s[at + 7]);
+    (b7 * 0x100000000000000 + b6 * 0x1000000000000 + b5 * 0x10000000000 + b4 * 0x100000000)
+        + (b3 * 0x1000000 + b2 * 0x10000 + b1 * 0x100 + b0)
+}
+
+// The word with its bytes in the other order.
+fn turn(x: u64) -> u64
+    ensures { λ r. ⌜ r ≡ turned 8 x ⌝ }
+{
+    let b0 = low(x);
+    let b1 = low(x / 0x100);
+    let b2 = low(x / 0x10000);
+    let b3 = low(x / 0x1000000);
+    let b4 = low(x / 0x100000000);
+    let b5 = low(x / 0x10000000000);
+    let b6 = low(x / 0x1000000000000);
+    let b7 = low(x / 0x100000000000000);
     (b0 * 0x100000000000000 + b1 * 0x1000000000000 + b2 * 0x10000000000 + b3 * 0x100000000)
         + (b4 * 0x1000000 + b5 * 0x10000 + b6 * 0x100 + b7)
+}
+
+// The eight bytes from `at` as a number. By way of the order that the processor has: so it is one load and one turn wherever it is
+// called from, whatever is done with the parts.
+pub fn u64_at(s: &[u8], at: usize) -> u64
+    requires { ⌜ at + 8 ≤ length (now s) ⌝ }
+    ensures { λ r. ⌜ r ≡ be 8 (now (s .entry)) at ⌝ }
+{
+    turn(first_lowest(s, at))
 }
 
 // The four bytes from `at` as a number.

@@ -1,5 +1,5 @@
-pub mod Joins
 pub mod Admits
 pub mod Scans
 pub mod Counted
 pub mod Meant
+pub mod Carries

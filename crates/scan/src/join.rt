@@ -1,10 +1,13 @@
 // What a version must be to come next: the order, and what the versions of one number may have at most once.
 use model::Version;
 ghost use mathlib.Core.Path.{_≡_};
-ghost use Prim.Native.Nat.{_<_};
-ghost use Rattle.model.specs.Sound.{isWorked};
-ghost use Rattle.row.specs.Layout.{keyOf};
+ghost use mathlib.Core.Bool.{cond};
+ghost use Prim.Native.Nat.{_/_, _<_};
+ghost use lib.Dec.{eqb};
+ghost use Rattle.model.specs.Sound.{isWorked, live, sends, worked};
+ghost use Rattle.row.specs.Layout.{flag};
 ghost use Rattle.scan.specs.Join.{joinOf};
+ghost use Rattle.scan.specs.Carried.{marksOf, groupOf, joinedBy, Few};
 
 // The last version's place in the order, and whether a version of its number is live, sending, worked.
 pub struct Group {
@@ -19,6 +22,28 @@ pub enum Joined {
     Yes(Group),
 }
 
+// The same in two words: what the number has as bits.
+pub struct Seen {
+    pub last: u64,
+    pub had: u64,
+}
+
+pub enum Next {
+    Stop,
+    Go(Seen),
+}
+
+pub fn group_of(s: Seen) -> Group
+    ensures { λ r. ⌜ r ≡ groupOf s ⌝ }
+{
+    Group {
+        last: s.last,
+        live: s.had % 2 == 1,
+        sends: s.had / 2 % 2 == 1,
+        worked: s.had / 4 % 2 == 1,
+    }
+}
+
 // Pending, conflict or cancel-pending.
 pub fn is_worked(s: u8) -> bool
     ensures { λ r. ⌜ r ≡ isWorked s ⌝ }
@@ -26,24 +51,44 @@ pub fn is_worked(s: u8) -> bool
     (s == 0) | ((s == 1) | (s == 2))
 }
 
-pub fn follow(g: Group, v: Version) -> Joined
-    requires { ⌜ v .id .tn .0 < 17179869184 ⌝ }
-    ensures { λ j. ⌜ j ≡ joinOf g v ⌝ }
+fn bit(b: bool) -> u64
+    ensures { λ r. ⌜ (r ≡ flag b) × (r < 2) ⌝ }
+{
+    if b { 1 } else { 0 }
+}
+
+// What v has of what a number may have once: live 1, sending 2, worked 4.
+fn marks(v: Version) -> u64
+    ensures { λ r. ⌜ (r ≡ marksOf (live v) (sends v) (worked v)) × (r < 8) ⌝ }
+{
+    let live = bit(v.live);
+    let sends = bit(v.status == 3);
+    let worked = bit(is_worked(v.status));
+    live + sends * 2 + worked * 4
+}
+
+// What the versions of this number had so far: nothing, if it is another number than the last one's.
+fn had_of(s: Seen, tn: u64) -> u64
+    requires { ⌜ s .had < 8 ⌝ }
+    ensures { λ r. ⌜ (r ≡ cond (eqb tn (s .last / 65536)) (s .had) 0) × (r < 8) ⌝ }
+{
+    if tn == s.last / 65536 { s.had } else { 0 }
+}
+
+pub fn follow(s: Seen, v: Version) -> Next
+    requires { ⌜ (v .id .tn .0 < 17179869184) × (s .had < 8) ⌝ }
+    ensures { λ n. ⌜ (joinedBy n ≡ joinOf (groupOf s) v) × Few n ⌝ }
 {
     let last = v.id.tn.0 * 65536 + v.id.number as u64;
-    let same = v.id.tn.0 == g.last / 65536;
-    let sends = v.status == 3;
-    let worked = is_worked(v.status);
-    let live = same & g.live;
-    let sent = same & g.sends;
-    let work = same & g.worked;
-    if (g.last < last) & !(live & v.live) & !(sent & sends) & !(work & worked) {
-        return Joined::Yes(Group {
-            last,
-            live: live | v.live,
-            sends: sent | sends,
-            worked: work | worked,
-        });
+    let has = marks(v);
+    let had = had_of(s, v.id.tn.0);
+    if s.last < last {
+        if had & has == 0 {
+            return Next::Go(Seen {
+                last,
+                had: had + has,
+            });
+        }
     }
-    Joined::No
+    Next::Stop
 }

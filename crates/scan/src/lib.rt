@@ -1,16 +1,18 @@
 // The soundness of a table: each row by itself, the order of the used ones, and nothing but zeros after them. One pass.
 use crate::join::Group;
-use crate::join::Joined;
+use crate::join::Next;
+use crate::join::Seen;
 use words::ROW;
 use words::Words;
 ghost use mathlib.Core.Path.{_≡_};
-ghost use Prim.Native.Nat.{_+_, _*_, _≤_};
+ghost use Prim.Native.Nat.{_+_, _*_, _≤_, _<_};
 ghost use lib.ListN.{length, drop};
 ghost use Rattle.words.specs.Size.{ROW};
 ghost use Rattle.words.specs.Codec.{wordsIn, isBlank};
 ghost use Rattle.rows.specs.Place.{rowAt};
 ghost use Rattle.rows.specs.Table.{piecesOf};
 ghost use Rattle.scan.specs.Join.{start};
+ghost use Rattle.scan.specs.Carried.{groupOf, joinedBy, Few};
 ghost use Rattle.scan.specs.Sound.{ROWS, admitOf, scanRows, scanOf, soundnessOf};
 
 pub mod join;
@@ -29,16 +31,17 @@ pub enum Soundness {
 }
 
 // A row that is not free.
-fn admit(g: Group, w: Words) -> Joined
-    ensures { λ j. ⌜ j ≡ admitOf g w ⌝ }
+fn admit(s: Seen, w: Words) -> Next
+    requires { ⌜ s .had < 8 ⌝ }
+    ensures { λ n. ⌜ (joinedBy n ≡ admitOf (groupOf s) w) × Few n ⌝ }
 {
     if row::spare_free(w) {
         let v = row::version_of(w);
         if sound::sound_version(v) {
-            return join::follow(g, v);
+            return join::follow(s, v);
         }
     }
-    Joined::No
+    Next::Stop
 }
 
 // Whether a row's bytes are all zero. Only compared with zero, its words are read many at a time.
@@ -88,26 +91,22 @@ fn over(t: &[u8]) -> Scan
     ensures { λ r. ⌜ r ≡ scanRows (Scan.Open 0 start) (piecesOf (now (t .entry))) ⌝ }
 {
     let n = t.len() / ROW;
-    let mut g = Group {
-        last: 0,
-        live: false,
-        sends: false,
-        worked: false,
-    };
+    let mut s = Seen { last: 0, had: 0 };
     let mut i = 0;
     while i < n {
         let w = rows::words(t, i);
         if w.head == 0 {
             return ended(t, i);
         }
-        let j = admit(g, w);
-        let Joined::Yes(next) = j else {
+        let j = admit(s, w);
+        let Next::Go(next) = j else {
             return Scan::Bad;
         };
-        g = next;
+        s = next;
         i += 1;
     }
-    Scan::Open { used: i, group: g }
+    let group = join::group_of(s);
+    Scan::Open { used: i, group }
 }
 
 fn whole(t: &[u8]) -> Scan

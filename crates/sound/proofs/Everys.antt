@@ -13,7 +13,8 @@ use Rattle.model.specs.declared.Retries.{Retries}
 use Rattle.model.specs.declared.Broadcast.{Broadcast}
 use Rattle.model.specs.Basics.{every}
 use Rattle.model.specs.Retries.{octal, used}
-use Rattle.model.specs.Sound.{apart, retriesFit}
+use Rattle.model.specs.Sound.{apart, retriesInRange, retriesFit}
+use Rattle.sound.specs.Order.{retriesSound}
 use Rattle.model.proofs.Lists.{clash}
 use Rattle.model.proofs.SoundSets.{every-at, every-all}
 
@@ -78,3 +79,7 @@ unfolding retriesFit
 retries-none c x y z =
     every-all (waits c) 63
     (λ p h l. rw (eq-eqb (used (c .retries) p) 0 (used-none (c .retries) p x y z)) (or-true (member (c .waiting) p)))
+
+pub retries-zero : (c : Broadcast) → c .retries .low ≡ 0 → c .retries .mid ≡ 0 → c .retries .high ≡ 0 → retriesSound c ≡ true
+unfolding retriesSound retriesInRange
+retries-zero c x y z = rw (retries-none c x y z, x, y, z)

@@ -8,11 +8,9 @@ use lib.Dec.{eqb, ltb}
 use lib.ListN.{getD}
 use Rattle.model.specs.Basics.{iff, implies, among, every}
 use Rattle.model.specs.Sound.{isPurposed}
+use Rattle.sound.specs.Marks.{fitting}
 use Rattle.model.proofs.Lists.{conj-at}
 use Rattle.model.proofs.SoundSets.{every-at}
-
-unfoldable pub fits : List ℕ
-fits = 14 ∷ 10 ∷ 8 ∷ 3233860608 ∷ 3072 ∷ 49152 ∷ 3233857536 ∷ 12 ∷ 14 ∷ []
 
 -- the clauses, of a status, a purpose and the marks live, new side created, old side created
 abbrev pub rule : ℕ → ℕ → Bool → Bool → Bool → Bool
@@ -21,7 +19,7 @@ rule s p l n o =
     && (iff (ltb 0 p) (isPurposed s) && implies (among s (4 ∷ 5 ∷ [])) (eqb p 1)) && cond (eqb s 3) (l || eqb p 1) (iff l (among s (5 ∷ 6 ∷ [])))
 
 abbrev pub entry : ℕ → ℕ → Bool → Bool → Bool → Bool
-entry s p l n o = eqb (getD fits s 0 / 2 ^ (p * 8 + cond l 1 0 * 4 + cond n 1 0 * 2 + cond o 1 0) % 2) 1
+entry s p l n o = eqb (getD fitting s 0 / 2 ^ (p * 8 + cond l 1 0 * 4 + cond n 1 0 * 2 + cond o 1 0) % 2) 1
 
 abbrev agree : ℕ → ℕ → Bool → Bool → Bool → Bool
 agree s p l n o = iff (entry s p l n o) (rule s p l n o)
@@ -46,7 +44,7 @@ right-at s p false false true e = conj-at (cases (agree s p)) e 6
 right-at s p false false false e = conj-at (cases (agree s p)) e 7
 
 computed : every (λ (s : ℕ). every (λ (p : ℕ). right (s - 1) (p - 1)) 4) 9 ≡ true
-unfolding every right fits
+unfolding every right fitting
 computed = refl
 
 iff-same : (a b : Bool) → iff a b ≡ true → a ≡ b
@@ -61,3 +59,7 @@ entry-rule s p l n o h k =
     let a : s + 1 - 1 ≡ s = omega arith in
     let b : p + 1 - 1 ≡ p = omega arith in
     iff-same (entry s p l n o) (rule s p l n o) (right-at s p l n o (subst (λ (i : ℕ). right s i ≡ true) b (subst (λ (i : ℕ). right i (p + 1 - 1) ≡ true) a cell)))
+
+-- a number that is none of the first ones is above them
+pub above : (k s : ℕ) → k ≤ s → (s ≡ k → ⊥) → k + 1 ≤ s
+above k s h n = omega arith

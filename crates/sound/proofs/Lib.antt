@@ -4,3 +4,4 @@ pub mod Everys
 pub mod Waiting
 pub mod Fitting
 pub mod Clauses
+pub mod Created

@@ -4,7 +4,7 @@ use mathlib.Core.Bool.{Bool, true, false, not, _&&_, _||_, and-assoc, and-true}
 use Prim.Native.Nat.{ℕ, zero, suc, _+_, _-_, _*_, _/_, _%_, _^_, _≤_, _<_}
 use native.Mathlib.Nat.{pow-suc, div-one, div-div-eq-div-mul, mod-lt}
 use native.Mathlib.Omega.{arith}
-use borrow.Author.Tests.{le-leb, lt-leb}
+use borrow.Author.Tests.{le-leb, lt-leb, eq-eqb, ne-eqb}
 use lib.Arith.{mod-mul}
 use lib.Dec.{eqb, lit<}
 use lib.Pow.{pow-add}
@@ -63,6 +63,31 @@ module _ (word set w s : ℕ) (l : Left word set w s) (nz : w ≡ 0 → ⊥) whe
 
   pub left-stray : stray w s ≡ true → false ≡ digitsWait 21 word set
   left-stray t = stray-found word set w s (l .digits) (l .fits) (l .same) nz t
+
+-- the test as the code has it: no branch on either part
+product-stray : (y x : ℕ) → x < 2 → (y * (1 - x) ≡ 0 → ⊥) → (eqb x 0 && not (eqb y 0)) ≡ true
+product-stray y zero h n = ap not (ne-eqb y 0 (λ e. n (omega arith)))
+product-stray y (suc zero) h n = absurd (n (omega arith))
+product-stray y (suc (suc x)) h n = absurd (omega arith)
+
+product-none : (y x : ℕ) → x < 2 → y * (1 - x) ≡ 0 → (eqb x 0 && not (eqb y 0)) ≡ false
+product-none y zero h e =
+    let z : y ≡ 0 = omega arith in
+    ap not (eq-eqb y 0 z)
+product-none y (suc zero) h e = refl
+product-none y (suc (suc x)) h e = absurd (omega arith)
+
+pub product-fits : (y x : ℕ) → y < 8 → y * (1 - x) < 18446744073709551616
+product-fits y zero h = omega arith
+product-fits y (suc x) h =
+    let z : 1 - suc x ≡ 0 = omega arith in
+    rw z (omega arith)
+
+pub stray-product : (w s : ℕ) → (w % 8 * (1 - s % 2) ≡ 0 → ⊥) → stray w s ≡ true
+stray-product w s n = product-stray (w % 8) (s % 2) (mod-lt s (lit< tt)) n
+
+pub no-stray-product : (w s : ℕ) → w % 8 * (1 - s % 2) ≡ 0 → stray w s ≡ false
+no-stray-product w s e = product-none (w % 8) (s % 2) (mod-lt s (lit< tt)) e
 
 -- ---- three words
 

@@ -1,2 +1,3 @@
 pub mod Marks
 pub mod Digits
+pub mod Order

@@ -2,27 +2,31 @@
 use model::Version;
 ghost use mathlib.Core.Path.{_≡_};
 ghost use Rattle.model.specs.Sound.{soundVersion};
+ghost use Rattle.sound.specs.Order.{shapeFits};
 
 pub mod cast;
 pub mod marks;
 pub mod ranges;
 pub mod sides;
 
-pub fn sound_version(v: Version) -> bool
-    ensures { λ r. ⌜ r ≡ soundVersion v ⌝ }
+// All but the broadcast.
+fn shape_fits(v: Version) -> bool
+    ensures { λ r. ⌜ r ≡ shapeFits v ⌝ }
 {
-    let cast = v.cast;
-    if !ranges::in_range(v) {
+    if !ranges::outline_fits(v) {
         return false;
     }
     if !marks::marks_fit(v) {
         return false;
     }
-    if !sides::sides_fit(v) {
+    sides::sides_fit(v)
+}
+
+pub fn sound_version(v: Version) -> bool
+    ensures { λ r. ⌜ r ≡ soundVersion v ⌝ }
+{
+    if !shape_fits(v) {
         return false;
     }
-    if !cast::retries_fit(cast) {
-        return false;
-    }
-    cast::sets_apart(cast) & cast::start_fits(v) & cast::waiting_fits(v) & cast::live_confirmed(v)
+    cast::cast_fits(v)
 }

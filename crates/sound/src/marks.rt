@@ -3,20 +3,28 @@ use model::Version;
 ghost use mathlib.Core.Path.{_≡_};
 ghost use mathlib.Core.Bool.{cond};
 ghost use Prim.Native.Nat.{_≤_};
-ghost use Rattle.sound.specs.Marks.{marksFit};
+ghost use Rattle.sound.specs.Marks.{fitting, marksFit};
+ghost use lib.ListN.{getD};
 
-// For each status the places that fit: purpose * 8 + live * 4 + new side created * 2 + old side created.
-const FITS: [u64; 9] = [
-    0xe,
-    0xa,
-    0x8,
-    0xc0c0_cc00,
-    0xc00,
-    0xc000,
-    0xc0c0_c000,
-    0xc,
-    0xe,
-];
+// For each status the places that fit: purpose * 8 + live * 4 + new side created * 2 + old side created. A match is compiled to a table that
+// stands in the program; a constant array would be made anew at each call.
+fn places(status: u8) -> u64
+    requires { ⌜ status ≤ 8 ⌝ }
+    ensures { λ r. ⌜ r ≡ getD fitting status 0 ⌝ }
+{
+    match status {
+        0 => 0xe,
+        1 => 0xa,
+        2 => 0x8,
+        3 => 0xc0c0_cc00,
+        4 => 0xc00,
+        5 => 0xc000,
+        6 => 0xc0c0_c000,
+        7 => 0xc,
+        8 => 0xe,
+        _ => 0,
+    }
+}
 
 fn bit(b: bool) -> u8
     ensures { λ r. ⌜ (r ≡ cond b 1 0) × (r ≤ 1) ⌝ }
@@ -28,10 +36,10 @@ pub fn marks_fit(v: Version) -> bool
     requires { ⌜ (v .status ≤ 8) × (v .cast .purpose ≤ 3) ⌝ }
     ensures { λ r. ⌜ r ≡ marksFit v ⌝ }
 {
-    let at = v.status as usize;
+    let places = places(v.status);
     let live = bit(v.live);
     let new = bit(v.new.created);
     let old = bit(v.old.created);
     let place = v.cast.purpose * 8 + live * 4 + new * 2 + old;
-    (FITS[at] >> place) % 2 == 1
+    (places >> place) % 2 == 1
 }

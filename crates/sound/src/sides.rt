@@ -1,4 +1,5 @@
-// What the two sides of a version have.
+// What the two sides of a version have. Each test is the same for a side that has created and for one that has not: a branch on that mark would go
+// either way from row to row.
 use crate::ranges;
 use model::NewSide;
 use model::OldSide;
@@ -16,28 +17,21 @@ fn sides_differ(v: Version) -> bool
 fn new_whole(s: NewSide) -> bool
     ensures { λ r. ⌜ r ≡ newWhole s ⌝ }
 {
-    if s.created {
-        return ranges::is_time(s.due) & ranges::ten_digits(s.lrn.0);
-    }
-    (s.due == 0) & (s.lrn.0 == 0)
+    (s.created == (s.due != 0))
+        & (s.created == (s.lrn.0 != 0))
+        & (s.created == ranges::ten_digits(s.lrn.0))
 }
 
 fn old_whole(s: OldSide) -> bool
     ensures { λ r. ⌜ r ≡ oldWhole s ⌝ }
 {
-    if s.created {
-        return ranges::is_time(s.due) & ((s.authorization == 1) | (s.authorization == 2));
-    }
-    (s.due == 0) & (s.authorization == 0)
+    (s.created == (s.due != 0)) & (s.created == (s.authorization != 0)) & (s.authorization <= 2)
 }
 
 fn cause_fits(s: OldSide) -> bool
     ensures { λ r. ⌜ r ≡ causeFits s ⌝ }
 {
-    if s.authorization == 2 {
-        return (1 <= s.cause) & (s.cause <= 99);
-    }
-    s.cause == 0
+    ((s.authorization == 2) == (s.cause != 0)) & (s.cause <= 99)
 }
 
 fn canceller_fits(v: Version) -> bool

@@ -1,5 +1,5 @@
 -- `join::follow` meets its contract. Assumes nothing.
-use Rattle.scan.proofs.Joins.{join-yes, join-no}
+use Rattle.scan.proofs.Carries.{follow-go, follow-few, follow-late, follow-twice}
 use borrow.Author.Needs.{needs}
 use Rattle.scan.proofs.join.follow.Statement.{statement}
 use Rattle.scan.proofs.join.follow.Tie as tie
@@ -13,18 +13,48 @@ cast-last c = search needs
 add-last : tie.Need-add-last
 add-last c = search needs
 
-is-worked-requires : tie.Need-is-worked-requires
-is-worked-requires c κs = search needs
+marks-requires : tie.Need-marks-requires
+marks-requires c κs = search needs
+
+had-of-requires : tie.Need-had-of-requires
+had-of-requires c κs = search needs
+
+add-t11 : tie.Need-add-t11
+add-t11 c = search needs
 
 returns : tie.Need-returns
 returns c =
-    let a = c .before .before .before .before .before .before .before .before .before .before .before .before .before .args in
-    join-yes (a .g) (a .v) (c .before .before .before .before .before .before .before .is-worked .result) (c .before .before .before .before .before .before .before .is-worked .ensures) (c .before .if1 .taken)
+    let d = c .before .before .before .before .before .before .before in
+    let h = c .before .before .before .had-of in
+    let m = c .before .before .before .before .marks in (
+      follow-go (d .args .s) (d .args .v) (d .pre .1) (h .result) (m .result) (h .ensures .0) (m .ensures .0) (c .before .if1 .taken) (c .if2 .taken),
+      follow-few (d .args .s) (d .args .v) (d .pre .1) (h .result) (m .result) (h .ensures .0) (m .ensures .0) (c .before .if1 .taken) (c .if2 .taken),
+    )
 
 returns-2 : tie.Need-returns-2
 returns-2 c =
-    let a = c .before .before .before .before .before .before .before .before .before .before .before .before .args in
-    join-no (a .g) (a .v) (c .before .before .before .before .before .before .is-worked .result) (c .before .before .before .before .before .before .is-worked .ensures) (c .if1 .left)
+    let d = c .before .before .before .before .before .before .before in
+    let h = c .before .before .before .had-of in
+    let m = c .before .before .before .before .marks in
+    (follow-twice (d .args .s) (d .args .v) (d .pre .1) (h .result) (m .result) (h .ensures .0) (m .ensures .0) (c .if2 .left), tt)
+
+returns-3 : tie.Need-returns-3
+returns-3 c =
+    let d = c .before .before .before .before .before .before in
+    let h = c .before .before .had-of in
+    let m = c .before .before .before .marks in
+    (follow-late (d .args .s) (d .args .v) (d .pre .1) (h .result) (m .result) (h .ensures .0) (m .ensures .0) (c .if1 .left), tt)
 
 pub follow-spec : {M : Type 1} → statement M
-follow-spec = tie.close (tie.spec mul-last cast-last add-last is-worked-requires returns returns-2)
+follow-spec =
+    tie.close
+    (tie.spec
+    mul-last
+    cast-last
+    add-last
+    marks-requires
+    had-of-requires
+    add-t11
+    returns
+    returns-2
+    returns-3)

@@ -1,14 +1,13 @@
 -- `marks::marks_fit` meets its contract. Assumes nothing.
 use Rattle.model.specs.Sound.{sidesNeeded}
 use Rattle.sound.specs.Marks.{marksFit}
-use Rattle.sound.proofs.Fitting.{fits, entry-rule}
+use Rattle.sound.proofs.Fitting.{entry-rule}
 use borrow.Author.Needs.{needs}
 use Rattle.sound.proofs.marks.marks_fit.Statement.{statement}
 use Rattle.sound.proofs.marks.marks_fit.Tie as tie
-use Rattle.sound.proofs.marks.bit.Reads as bit-reads
 
-cast-at : tie.Need-cast-at
-cast-at c = search needs
+places-requires : tie.Need-places-requires
+places-requires c κs = search needs
 
 bit-requires : tie.Need-bit-requires
 bit-requires c κs = search needs
@@ -37,12 +36,6 @@ add-place-2 c = search needs
 add-place-3 : tie.Need-add-place-3
 add-place-3 c = search needs
 
-mul-result : tie.Need-mul-result
-mul-result c = search needs
-
-array-read-result : tie.Need-array-read-result
-array-read-result c = search needs
-
 cast-result : tie.Need-cast-result
 cast-result c = search needs
 
@@ -50,16 +43,17 @@ shr-result : tie.Need-shr-result
 shr-result c = search needs
 
 returns : tie.Need-returns
-unfolding marksFit sidesNeeded fits
+unfolding marksFit sidesNeeded
 returns c =
-    let v = c .before .before .before .before .before .args .v in
-    rw (c .before .before .before .bit .ensures .0, c .before .before .bit2 .ensures .0, c .before .bit3 .ensures .0) (entry-rule (v .status) (v .cast .purpose) (v .live) (v .new .created) (v .old .created) (c .before .before .before .before .before .pre .0) (c .before .before .before .before .before .pre .1))
+    let d = c .before .before .before .before .before in
+    let v = d .args .v in
+    rw (c .before .before .before .before .places .ensures, c .before .before .before .bit .ensures .0, c .before .before .bit2 .ensures .0, c .before .bit3 .ensures .0) (entry-rule (v .status) (v .cast .purpose) (v .live) (v .new .created) (v .old .created) (d .pre .0) (d .pre .1))
 
 pub marks-fit-spec : {M : Type 1} → statement M
 marks-fit-spec =
     tie.close
     (tie.spec
-    cast-at
+    places-requires
     bit-requires
     bit-requires-2
     bit-requires-3
@@ -69,8 +63,6 @@ marks-fit-spec =
     mul-place-3
     add-place-2
     add-place-3
-    mul-result
-    array-read-result
     cast-result
     shr-result
     returns)

@@ -1,0 +1,36 @@
+-- The clauses of a sound version in the groups in which the code asks them.
+-- Assumes nothing.
+use Prim.Native.Nat.{ℕ, _^_}
+use mathlib.Core.Bool.{Bool, _&&_}
+use lib.Dec.{ltb, leb}
+use Rattle.model.specs.declared.Broadcast.{Broadcast}
+use Rattle.model.specs.declared.Version.{Version}
+use Rattle.model.specs.Numbers.{tenDigits, isProvider, isSet, isTime, isNumber}
+use Rattle.model.specs.Sound.{retriesInRange, sidesDiffer, newWhole, oldWhole, causeFits, cancellerFits, setsApart, retriesFit, startFits, waitingFits, liveConfirmed}
+use Rattle.sound.specs.Marks.{marksFit}
+
+-- the ranges of all but the times, the sets and the retries [V1]
+unfoldable pub outlineFits : Version → Bool
+outlineFits v =
+    tenDigits (v .id .tn .0) && isNumber (v .id .number) && leb (v .status) 8 && isProvider (v .new .provider) && isProvider (v .old .provider) && leb (v .canceller) 2
+    && leb (v .cast .purpose) 3
+
+-- all but the broadcast
+unfoldable pub shapeFits : Version → Bool
+shapeFits v =
+    outlineFits v && marksFit v && (sidesDiffer v && newWhole (v .new) && oldWhole (v .old) && causeFits (v .old) && cancellerFits v)
+
+-- the times, and who waits [V1, V7]
+unfoldable pub timesFit : Version → Bool
+timesFit v = isTime (v .stamp) && ltb (v .cast .start) (2 ^ 32) && startFits v && waitingFits v
+
+-- the sets [V1, V6]
+unfoldable pub setsFit : Broadcast → Bool
+setsFit c = isSet (c .confirmed) && isSet (c .waiting) && isSet (c .failed) && setsApart c
+
+-- the retries [V1, V6]
+unfoldable pub retriesSound : Broadcast → Bool
+retriesSound c = retriesInRange (c .retries) && retriesFit c
+
+unfoldable pub castFits : Version → Bool
+castFits v = timesFit v && setsFit (v .cast) && liveConfirmed v && retriesSound (v .cast)
