@@ -220,7 +220,7 @@ pub fn manage(
     if e.kind == 13 {
         return put_window(table, n, i, e, v, tray);
     }
-    if judge::is_broadcast(e.kind) {
+    if broadcast::cast::is_broadcast(e.kind) {
         return broadcast(marks, books, table, n, i, e, v, lives, tray);
     }
     table::change::strike_at(table, n, i);

@@ -9,10 +9,18 @@ ghost use mathlib.Core.Path.{_≡_};
 ghost use mathlib.Core.Bool.{true, false, cond};
 ghost use Prim.Native.Nat.{_≤_, _<_, max};
 ghost use lib.Dec.{eqb};
+ghost use Rattle.model.specs.Record.{isBroadcast};
 ghost use Rattle.model.specs.Broadcast.{resends, newFor, askedFor, purposeFor, opened};
 ghost use Rattle.model.specs.Answers.{answering, awaited, again, succeeds, moves, moved, heard};
 ghost use Rattle.model.specs.Closing.{open?, closeBy, closeTo, closed, retired, takesOver, settled};
 ghost use Rattle.broadcast.specs.Bounds.{Words, Waits};
+
+// The kinds that begin a broadcast.
+pub fn is_broadcast(kind: u8) -> bool
+    ensures { λ r. ⌜ r ≡ isBroadcast kind ⌝ }
+{
+    (kind == 5) | ((kind == 9) | ((kind == 10) | (kind == 14)))
+}
 
 // The Local SMS that replies, or is silent.
 pub fn answering(e: Event) -> u8

@@ -12,7 +12,6 @@ ghost use Prim.Native.Nat.{_<_};
 ghost use lib.Dec.{eqb, ltb, leb};
 ghost use Rattle.model.specs.Basics.{among, holds, isNone};
 ghost use Rattle.model.specs.Outcomes.{isDone};
-ghost use Rattle.model.specs.Record.{isBroadcast};
 ghost use Rattle.model.specs.Standing.{isGridKind, unready, lacksStanding, wrongStatus};
 ghost use Rattle.model.specs.Creates.{currentOr, fits};
 ghost use Rattle.model.specs.Answers.{awaited};
@@ -204,18 +203,12 @@ fn unready(e: Event, v: Version) -> bool
     (e.kind == 14) & (v.status == 6) & (v.cast.failed == 0)
 }
 
-pub fn is_broadcast(kind: u8) -> bool
-    ensures { λ r. ⌜ r ≡ isBroadcast kind ⌝ }
-{
-    (kind == 5) | ((kind == 9) | ((kind == 10) | (kind == 14)))
-}
-
 fn busy(e: Event, f: Facts, v: Version) -> bool
     ensures { λ r. ⌜ r ≡ busyFor e f v ⌝ }
 {
     let all = f.all;
     let rest = f.rest;
-    if is_broadcast(e.kind) {
+    if broadcast::cast::is_broadcast(e.kind) {
         return rest.sends | ((e.kind == 14) & (v.status == 4) & (v.id.number < all.newest));
     }
     (e.kind == 15) & (all.newest <= v.id.number)

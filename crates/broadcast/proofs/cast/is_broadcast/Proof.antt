@@ -1,6 +1,6 @@
 use mathlib.Core.Bool.{or-false}
-use Rattle.judge.proofs.is_broadcast.Statement.{statement}
-use Rattle.judge.proofs.is_broadcast.Tie as tie
+use Rattle.broadcast.proofs.cast.is_broadcast.Statement.{statement}
+use Rattle.broadcast.proofs.cast.is_broadcast.Tie as tie
 
 returns : tie.Need-returns
 returns c = rw (or-false _)
