@@ -18,7 +18,7 @@ use Rattle.model.specs.Step.{manages}
 use Rattle.model.specs.Creates.{creates}
 use Rattle.table.specs.declared.survey.Facts.{Facts}
 use Rattle.books.specs.Packed.{decodeBooks, soundBytes}
-use Rattle.broadcast.specs.Bounds.{Waits}
+use Rattle.answers.specs.Waits.{Waits}
 use Rattle.model.specs.declared.Marks.{Marks}
 use Rattle.model.proofs.SoundRows.{Row}
 use Rattle.model.proofs.SoundLaws.{Brings}

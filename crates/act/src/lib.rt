@@ -67,10 +67,10 @@ pub fn put_marked(table: &mut [u8], n: usize, i: usize, w: Version, tray: &mut [
 fn replaced(w: Version, lives: Seen) -> Seen
     ensures { λ r. ⌜ r ≡ replacedBy w lives ⌝ }
 {
-    if broadcast::cast::is_open(w) {
+    if closing::is_open(w) {
         return Seen::Nobody;
     }
-    if broadcast::cast::takes_over(w) {
+    if closing::takes_over(w) {
         return lives;
     }
     Seen::Nobody
@@ -82,11 +82,11 @@ pub fn settle(table: &mut [u8], n: usize, i: usize, w: Version, lives: Seen)
     requires { ⌜ Settling (decode (now table)) n i w lives ⌝ }
     ensures { λ _. ⌜ now (table .exit) ≡ encode (changes (put (settled w) ∷ settles w (othersOf (w .id) (decode (now (table .entry))))) (decode (now (table .entry)))) (rowsIn (now (table .entry))) ⌝ }
 {
-    let s = broadcast::cast::settled(w);
+    let s = closing::settled(w);
     let over = replaced(w, lives);
     match over {
         Seen::One(j, x) => {
-            let old = broadcast::cast::retired(w.stamp, x);
+            let old = closing::retired(w.stamp, x);
             table::change::put_two(table, n, i, s, j, old);
         }
         Seen::Nobody => {
@@ -127,9 +127,9 @@ pub fn put_answered(
     requires { ⌜ Answerable most e v × Settling (decode (now table)) n i (heard most e v) lives × (64 ≤ placesIn (now tray)) ⌝ }
     ensures { λ r. ⌜ Acted (answers most e v (othersOf (v .id) (decode (now (table .entry))))) (now (table .entry)) (now (tray .entry)) (now (table .exit)) (now (tray .exit)) r ⌝ }
 {
-    let p = broadcast::cast::answering(e);
-    let again = broadcast::cast::again(most, e, v.cast);
-    let w = broadcast::cast::heard(most, e, v);
+    let p = answers::answering(e);
+    let again = answers::again(most, e, v.cast);
+    let w = answers::heard(most, e, v);
     settle(table, n, i, w, lives);
     telling::answered(tray, again, p, v, w)
 }
@@ -175,7 +175,7 @@ fn broadcast(
     ensures { λ r. ⌜ Acted (broadcasts (decodeBooks marks (now (books .entry))) e v (othersOf (v .id) (decode (now (table .entry))))) (now (table .entry)) (now (tray .entry)) (now (table .exit)) (now (tray .exit)) r ⌝ }
 {
     let s = selection::selected(marks, books, v.id.tn.0 / 10000);
-    let w = broadcast::cast::opened(s, e, v);
+    let w = opening::opened(s, e, v);
     put_broadcast(table, n, i, w, lives, tray)
 }
 
@@ -220,7 +220,7 @@ pub fn manage(
     if e.kind == 13 {
         return put_window(table, n, i, e, v, tray);
     }
-    if broadcast::cast::is_broadcast(e.kind) {
+    if opening::is_broadcast(e.kind) {
         return broadcast(marks, books, table, n, i, e, v, lives, tray);
     }
     table::change::strike_at(table, n, i);

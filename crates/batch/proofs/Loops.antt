@@ -19,7 +19,7 @@ use Rattle.rows.proofs.Pieces.{chunks-length, getD-chunks}
 use Rattle.scan.specs.Sound.{SoundTable, soundnessOf}
 use Rattle.scan.specs.declared.Soundness.the-variants.{Sound}
 use Rattle.tray.specs.Tray.{placesIn}
-use Rattle.engine.specs.Step.{fitting}
+use Rattle.checks.specs.Checks.{fitting}
 use Rattle.engine.proofs.Keeping.{result-few}
 use Rattle.model.proofs.Lists.{and-l}
 use Rattle.batch.specs.declared.Ran.{Ran}

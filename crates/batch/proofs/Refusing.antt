@@ -15,7 +15,8 @@ use Rattle.scan.specs.Sound.{soundnessOf}
 use Rattle.scan.specs.declared.Soundness.{Soundness}
 use Rattle.scan.specs.declared.Soundness.the-variants.{Unsound, Sound}
 use Rattle.tray.specs.Tray.{placesIn}
-use Rattle.engine.specs.Step.{formed, fitting}
+use Rattle.checks.specs.Checks.{fitting}
+use Rattle.engine.specs.Step.{formed}
 use Rattle.batch.specs.declared.Ran.{Ran}
 use Rattle.batch.specs.Batch.{RECORD, recordsIn, Stand, steps, begin, refusal, leaves, refusedWith, Went}
 

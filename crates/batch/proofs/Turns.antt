@@ -16,9 +16,10 @@ use Rattle.rows.specs.Table.{decode}
 use Rattle.scan.specs.Sound.{SoundTable, soundnessOf, rowsIn}
 use Rattle.scan.specs.declared.Soundness.the-variants.{Sound}
 use Rattle.tray.specs.Tray.{placesIn, putAll}
-use Rattle.engine.specs.declared.event.Answer.{Answer}
+use Rattle.outcomes.specs.declared.Answer.{Answer}
 use Rattle.engine.specs.Event.{Did, tableAfter}
-use Rattle.engine.specs.Step.{fitting, resultIn}
+use Rattle.checks.specs.Checks.{fitting}
+use Rattle.engine.specs.Step.{resultIn}
 use Rattle.engine.proofs.Keeping.{Again, again, result-few}
 use Rattle.batch.specs.Batch.{Stand, after, resultAt, Turned}
 

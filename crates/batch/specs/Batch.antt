@@ -16,7 +16,8 @@ use Rattle.scan.specs.Sound.{SoundTable, soundnessOf}
 use Rattle.scan.specs.declared.Soundness.the-variants.{Sound}
 use Rattle.tray.specs.Tray.{messageSize, placesIn, putAll}
 use Rattle.engine.specs.Event.{tableAfter}
-use Rattle.engine.specs.Step.{formed, fitting, resultIn}
+use Rattle.checks.specs.Checks.{fitting}
+use Rattle.engine.specs.Step.{formed, resultIn}
 use Rattle.batch.specs.declared.Ran.{Ran}
 
 -- a record's bytes

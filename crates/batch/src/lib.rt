@@ -10,7 +10,7 @@ ghost use Rattle.providers.specs.Providers.{listed, entryOf};
 ghost use Rattle.scan.specs.Sound.{SoundTable, soundnessOf};
 ghost use Rattle.scan.specs.declared.Soundness.the-variants.{Sound};
 ghost use Rattle.tray.specs.Tray.{messageSize, placesIn};
-ghost use Rattle.engine.specs.Step.{fitting};
+ghost use Rattle.checks.specs.Checks.{fitting};
 ghost use Rattle.batch.specs.Batch.{RECORD, recordsIn, Stand, resultAt, steps, begin, refusal, leaves, refusedWith, Went, Turned};
 
 const RECORD: usize = 24;
@@ -139,7 +139,7 @@ fn on_table(
     ensures { λ r. ⌜ Went (refusal l (now (books .entry)) most (now (events .entry)) (now (table .entry)) (now (tray .entry)) (now (outs .entry))) (leaves l (now (books .entry)) most (now (events .entry)) (now (table .entry)) (now (tray .entry)) (now (outs .entry))) (now (table .exit)) (now (tray .exit)) (now (outs .exit)) r ⌝ }
 {
     let places = tray::places(tray);
-    let fits = engine::step::fit(l, books, most, places);
+    let fits = checks::fit(l, books, most, places);
     if !fits {
         return refused(1);
     }

@@ -30,7 +30,7 @@ use Rattle.model.proofs.SoundLines.{all-find}
 use Rattle.model.proofs.SoundRows.{Row, cast-ranges}
 use Rattle.model.proofs.SoundLaws.{Brings}
 use Rattle.model.proofs.SoundStep.{answer-passed}
-use Rattle.broadcast.specs.Bounds.{Waits}
+use Rattle.answers.specs.Waits.{Waits}
 use Rattle.rows.specs.Table.{decode}
 use Rattle.scan.specs.Sound.{rowsIn, itself, SoundTable}
 use Rattle.table.specs.Survey.{Surveyed, Found, Stands, theOne, versionAt}

@@ -33,9 +33,10 @@ use Rattle.table.specs.Survey.{Surveyed, theOne}
 use Rattle.table.specs.declared.survey.Facts.{Facts}
 use Rattle.tray.specs.Tray.{putAll}
 use Rattle.act.specs.Act.{Acted, Creatable}
-use Rattle.engine.specs.Event.{Ready, Did, givenTo, doneWith}
+use Rattle.engine.specs.Event.{Ready, Did, givenTo}
+use Rattle.outcomes.specs.Done.{doneWith}
 use Rattle.judge.specs.Judged.{createFor, absentIn}
-use Rattle.engine.specs.declared.event.Answer.{Answer}
+use Rattle.outcomes.specs.declared.Answer.{Answer}
 use Rattle.judge.proofs.Judging.{zero-done, other-refused, create-judged}
 use Rattle.model.specs.declared.Event.{Event}
 use Rattle.model.specs.declared.Marks.{Marks}

@@ -28,8 +28,9 @@ use Rattle.scan.specs.Sound.{rowsIn, soundnessOf, SoundTable, itself}
 use Rattle.scan.specs.declared.Soundness.the-variants.{Unsound, Sound}
 use Rattle.tray.specs.Tray.{placesIn, putAll}
 use Rattle.engine.specs.Event.{Did, Ready, givenTo}
-use Rattle.engine.specs.declared.event.Answer.{Answer}
-use Rattle.engine.specs.Step.{settingOf, fitting, resultIn}
+use Rattle.outcomes.specs.declared.Answer.{Answer}
+use Rattle.checks.specs.Checks.{fitting}
+use Rattle.engine.specs.Step.{settingOf, resultIn}
 use Rattle.model.specs.declared.Event.{Event}
 use Rattle.model.specs.declared.Marks.{Marks}
 

@@ -12,7 +12,7 @@ use Rattle.providers.specs.Providers.{listed, entryOf}
 use Rattle.scan.specs.Sound.{soundnessOf}
 use Rattle.scan.specs.declared.Soundness.the-variants.{Sound}
 use Rattle.tray.specs.Tray.{putAll}
-use Rattle.engine.specs.declared.event.Answer.{Answer}
+use Rattle.outcomes.specs.declared.Answer.{Answer}
 use Rattle.engine.specs.Event.{Did, tableAfter}
 use Rattle.engine.specs.Step.{resultOf}
 use Rattle.engine.specs.Demands.{ByteDemand3}

@@ -14,7 +14,7 @@ use Rattle.books.specs.Packed.{decodeBooks, soundBytes}
 use Rattle.rows.specs.Table.{decode, encode}
 use Rattle.scan.specs.Sound.{rowsIn, itself}
 use Rattle.tray.specs.Tray.{putAll}
-use Rattle.engine.specs.declared.event.Answer.{Answer}
+use Rattle.outcomes.specs.declared.Answer.{Answer}
 use Rattle.model.specs.declared.Event.{Event}
 use Rattle.model.specs.declared.Marks.{Marks}
 
@@ -37,10 +37,6 @@ pub record Ready (m : Marks) (b : List ℕ) (e : Event) (k : ℕ) : Type 0 where
 -- the table after a result: where it is done, the bytes of the changed versions
 abbrev pub tableAfter : Result → List ℕ → List ℕ
 tableAfter x t = cond (isDone (x .out)) (encode (changes (x .does) (decode t)) (rowsIn t)) t
-
--- the answer to an event that is done
-abbrev pub doneWith : ℕ → Answer
-doneWith n = record { outcome = 0; count = n }
 
 -- the outcome's number, the count, the table and the tray are those of the result
 pub record Did (x : Result) (t y after trayAfter : List ℕ) (a : Answer) : Type 0 where

@@ -4,8 +4,7 @@ use Prim.Native.Nat.{ℕ}
 use mathlib.Core.Bool.{Bool, true, false, cond, _&&_}
 use mathlib.Core.List.{List, map}
 use Rattle.model.specs.Given.{Result, refuse}
-use lib.Dec.{leb}
-use Rattle.model.specs.Step.{Setting, PLACES, step}
+use Rattle.model.specs.Step.{Setting, step}
 use Rattle.record.specs.Layout.{readEvent}
 use Rattle.providers.specs.Providers.{listed, entryOf}
 use Rattle.providers.specs.declared.Listed.{Listed}
@@ -28,10 +27,6 @@ isTable (Sound n) = true
 -- the bytes are a provider list, books and a table
 abbrev pub formed : Listed → List ℕ → List ℕ → Bool
 formed l b t = isTable (soundnessOf t) && l .sound && soundBytes (l .marks) b
-
--- the provider list and the books are sound, R is 0 to 7, and the tray has its places
-abbrev pub fitting : Listed → List ℕ → ℕ → ℕ → Bool
-fitting l b most places = ((l .sound && soundBytes (l .marks) b) && leb most 7) && leb PLACES places
 
 -- document 01's step of what the bytes say; where they say nothing, outcome 1
 unfoldable pub resultIn : Listed → List ℕ → ℕ → List ℕ → List ℕ → List ℕ → Result

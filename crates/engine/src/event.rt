@@ -2,6 +2,7 @@
 use model::Event;
 use model::Id;
 use model::Marks;
+use outcomes::Answer;
 use table::survey::Facts;
 use table::survey::Seen;
 use words::ROW;
@@ -16,24 +17,7 @@ ghost use Rattle.rows.specs.Table.{decode};
 ghost use Rattle.scan.specs.Sound.{SoundTable};
 ghost use Rattle.table.specs.Survey.{Surveyed};
 ghost use Rattle.tray.specs.Tray.{placesIn};
-ghost use Rattle.engine.specs.Event.{Ready, Did, givenTo, doneWith};
-
-// The paper's number of the outcome, and how many messages stand in the tray.
-#[repr(C)]
-pub struct Answer {
-    pub outcome: u64,
-    pub count: u64,
-}
-
-// An event that is done, and so many messages.
-fn done(count: usize) -> Answer
-    ensures { λ r. ⌜ r ≡ doneWith count ⌝ }
-{
-    Answer {
-        outcome: 0,
-        count: count as u64,
-    }
-}
+ghost use Rattle.engine.specs.Event.{Ready, Did, givenTo};
 
 // Kinds 1 and 2.
 fn on_create(
@@ -53,12 +37,12 @@ fn on_create(
     let owner = books::owner(books, e.tn.0 / 10000);
     let free = n < table.len() / ROW;
     let o = judge::create(e, gone, owner, f, free);
-    let outcome = model::numbers::number(o);
+    let outcome = outcomes::number(o);
     if outcome != 0 {
         return Answer { outcome, count: 0 };
     }
     let count = act::created(table, n, e, f, tray);
-    done(count)
+    outcomes::done(count)
 }
 
 // Kinds 11 and 12.
@@ -82,16 +66,16 @@ fn on_answer(
     match asked {
         Seen::One(i, v) => {
             let o = judge::answer(e, gone, v);
-            let outcome = model::numbers::number(o);
+            let outcome = outcomes::number(o);
             if outcome != 0 {
                 return Answer { outcome, count: 0 };
             }
             let count = act::put_answered(most, table, n, i, e, v, lives, tray);
-            done(count)
+            outcomes::done(count)
         }
         Seen::Nobody => {
             let o = judge::unknown(gone);
-            let outcome = model::numbers::number(o);
+            let outcome = outcomes::number(o);
             Answer { outcome, count: 0 }
         }
     }
@@ -118,16 +102,16 @@ fn on_other(
     match asked {
         Seen::One(i, v) => {
             let o = judge::other(e, gone, f, v);
-            let outcome = model::numbers::number(o);
+            let outcome = outcomes::number(o);
             if outcome != 0 {
                 return Answer { outcome, count: 0 };
             }
             let count = act::manage(marks, books, table, n, i, e, v, lives, tray);
-            done(count)
+            outcomes::done(count)
         }
         Seen::Nobody => {
             let o = judge::unknown(gone);
-            let outcome = model::numbers::number(o);
+            let outcome = outcomes::number(o);
             Answer { outcome, count: 0 }
         }
     }

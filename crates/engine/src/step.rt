@@ -1,7 +1,7 @@
 // One step: any bytes get an outcome.
 use crate::event;
-use crate::event::Answer;
 use model::Reading;
+use outcomes::Answer;
 use providers::Listed;
 use scan::Soundness;
 ghost use mathlib.Core.Path.{_≡_};
@@ -10,16 +10,8 @@ ghost use Rattle.scan.specs.Sound.{SoundTable, soundnessOf};
 ghost use Rattle.scan.specs.declared.Soundness.the-variants.{Sound};
 ghost use Rattle.tray.specs.Tray.{placesIn};
 ghost use Rattle.engine.specs.Event.{Did};
-ghost use Rattle.engine.specs.Step.{fitting, resultIn, resultOf};
-
-// Provider list and books are sound, R is 0 to 7, and the tray has its places.
-pub fn fit(l: Listed, books: &[u8], most: u8, places: usize) -> bool
-    ensures { λ r. ⌜ r ≡ fitting l (now (books .entry)) most places ⌝ }
-{
-    let listed = l.sound;
-    let kept = books::sound(l.marks, books);
-    listed & kept & (most <= 7) & (64 <= places)
-}
+ghost use Rattle.checks.specs.Checks.{fitting};
+ghost use Rattle.engine.specs.Step.{resultIn, resultOf};
 
 // A record on a sound table, where all else fits.
 pub fn on_fitting(
@@ -60,7 +52,7 @@ fn on_table(
     ensures { λ r. ⌜ Did (resultIn l (now (books .entry)) most (now (event .entry)) (now (table .entry)) (now (tray .entry))) (now (table .entry)) (now (tray .entry)) (now (table .exit)) (now (tray .exit)) r ⌝ }
 {
     let places = tray::places(tray);
-    let sound = fit(l, books, most, places);
+    let sound = checks::fit(l, books, most, places);
     if !sound {
         return Answer {
             outcome: 1,

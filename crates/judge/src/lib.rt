@@ -152,7 +152,7 @@ fn answer_by(absent: bool, unawaited: bool, early: bool) -> Outcome
 pub fn answer(e: Event, absent: bool, v: Version) -> Outcome
     ensures { λ r. ⌜ r ≡ answerFor e absent v ⌝ }
 {
-    let waits = broadcast::cast::awaited(e, v);
+    let waits = answers::awaited(e, v);
     answer_by(absent, !waits, e.time < v.cast.start)
 }
 
@@ -208,7 +208,7 @@ fn busy(e: Event, f: Facts, v: Version) -> bool
 {
     let all = f.all;
     let rest = f.rest;
-    if broadcast::cast::is_broadcast(e.kind) {
+    if opening::is_broadcast(e.kind) {
         return rest.sends | ((e.kind == 14) & (v.status == 4) & (v.id.number < all.newest));
     }
     (e.kind == 15) & (all.newest <= v.id.number)
@@ -230,7 +230,7 @@ pub fn other(e: Event, absent: bool, f: Facts, v: Version) -> Outcome
 {
     let all = f.all;
     let standing = sides::standing_of(e, v);
-    let entry = model::grid::grid(v.status, e.kind, standing);
+    let entry = grid::grid(v.status, e.kind, standing);
     let finer = unready(e, v);
     let taken = busy(e, f, v);
     let spent = idle(e, v);

@@ -18,7 +18,6 @@ use Rattle.rows.specs.Table.{decode}
 use Rattle.scan.specs.Sound.{rowsIn}
 use Rattle.engine.specs.Step.{settingOf, formed, resultIn, resultOf}
 use Rattle.batch.specs.Batch.{refusal}
-use Rattle.lupinenblatt.specs.Checks.{checkedBooks}
 
 -- R above 7 is refused, whatever else was lent.
 pub wide-retries : (p b : List ℕ) (most : ℕ) (e t y : List ℕ) → leb most 7 ≡ false → resultOf p b most e t y ≡ refuse outcome.Unsound
@@ -44,9 +43,3 @@ wide-run l b most es t y o h = go (formed l b t) refl
     go : (f : Bool) → formed l b t ≡ f → refusal l b most es t y o ≡ 1
     go true q = rw (q, h)
     go false q = rw q
-
--- the provider list that was read, and what the books' check said of it
-pub checks : (p b : List ℕ) (l : Listed) (k : Bool) (n : ℕ) → l ≡ listed (map entryOf p) → k ≡ soundBytes (l .marks) b → n ≡ cond (l .sound && k) 0 1 → n ≡ checkedBooks p b
-unfolding checkedBooks
-checks p b l k n e f g =
-    g ∙ ap (λ (x : Bool). cond (l .sound && x) 0 1) f ∙ ap (λ (x : Listed). cond (x .sound && soundBytes (x .marks) b) 0 1) e

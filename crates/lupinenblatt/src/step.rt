@@ -1,12 +1,11 @@
 // The step, and the checks of what it is lent.
-use engine::event::Answer;
-use scan::Soundness;
+use outcomes::Answer;
 ghost use mathlib.Core.Path.{_≡_};
 ghost use Rattle.model.specs.Books.{defaultRetries};
 ghost use Rattle.scan.specs.Sound.{soundnessOf};
 ghost use Rattle.engine.specs.Event.{Did};
 ghost use Rattle.engine.specs.Step.{resultOf};
-ghost use Rattle.lupinenblatt.specs.Checks.{checkedTable, checkedBooks};
+ghost use Rattle.checks.specs.Checks.{checkedTable, checkedBooks};
 
 const MOST_RETRIES: u64 = 7;
 
@@ -52,17 +51,7 @@ pub extern "C" fn lupinenblatt_step_default(
 pub extern "C" fn lupinenblatt_table_check(table: &[u8]) -> Answer
     ensures { λ r. ⌜ r ≡ checkedTable (soundnessOf (now (table .entry))) ⌝ }
 {
-    let verdict = scan::verdict(table);
-    match verdict {
-        Soundness::Sound { used } => Answer {
-            outcome: 0,
-            count: used as u64,
-        },
-        Soundness::Unsound => Answer {
-            outcome: 1,
-            count: 0,
-        },
-    }
+    checks::table_check(table)
 }
 
 // Whether bytes are a sound provider list and sound books.
@@ -70,9 +59,5 @@ pub extern "C" fn lupinenblatt_table_check(table: &[u8]) -> Answer
 pub extern "C" fn lupinenblatt_books_check(providers: &[u8], books: &[u8]) -> u8
     ensures { λ r. ⌜ r ≡ checkedBooks (now (providers .entry)) (now (books .entry)) ⌝ }
 {
-    let l = providers::marks_of_bytes(providers);
-    let marks = l.marks;
-    let listed = l.sound;
-    let kept = books::sound(marks, books);
-    if listed & kept { 0 } else { 1 }
+    checks::books_check(providers, books)
 }

@@ -1,6 +1,4 @@
 // The things that document 01 speaks of, as structs by value. Its rules are definitions over these very structs: specs/.
-pub mod grid;
-pub mod numbers;
 
 // A telephone number, and a location routing number: ten digits each, never taken for one another. [N1, N2, F6]
 pub struct Tn(pub u64);

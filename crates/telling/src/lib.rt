@@ -95,10 +95,10 @@ fn settling(tray: &mut [u8], at: usize, w: Version) -> usize
     requires { ⌜ at + 2 ≤ placesIn (now tray) ⌝ }
     ensures { λ r. ⌜ Told (settlingTold w) at (now (tray .entry)) (now (tray .exit)) r ⌝ }
 {
-    if broadcast::cast::is_open(w) {
+    if closing::is_open(w) {
         return 0;
     }
-    let v = broadcast::cast::closed(w);
+    let v = closing::closed(w);
     if w.cast.purpose == 1 {
         tell_sides(tray, at, v, 2, w.cast.failed, Lrn(0));
         return 2;
@@ -131,7 +131,7 @@ pub fn broadcast(tray: &mut [u8], w: Version) -> usize
     requires { ⌜ (64 ≤ placesIn (now tray)) × (w .cast .purpose ≤ 3) ⌝ }
     ensures { λ r. ⌜ Told (downloads w ++ settlingTold w) 0 (now (tray .entry)) (now (tray .exit)) r ⌝ }
 {
-    if broadcast::cast::is_open(w) {
+    if closing::is_open(w) {
         let m = download(w, 1);
         return tray::put_downloads(tray, 0, m, w.cast.waiting);
     }

@@ -3,7 +3,7 @@ use mathlib.Core.Path.{refl, sym, ap, _∙_}
 use Prim.Native.Nat.{ℕ}
 use native.Mathlib.Omega.{arith}
 use borrow.Author.Tests.{not-true, not-false}
-use Rattle.engine.specs.Step.{fitting}
+use Rattle.checks.specs.Checks.{fitting}
 use Rattle.batch.proofs.Refusing.{went-refused, unfit, short, partly, wholly, went-whole}
 use borrow.Author.Needs.{needs}
 use Rattle.batch.proofs.on_table.Statement.{statement}

@@ -6,7 +6,7 @@ use mathlib.Core.List.{List}
 use lib.ListN.{length, length-set}
 use Rattle.tray.specs.Tray.{placesIn}
 use Rattle.scan.specs.Sound.{rowsIn}
-use Rattle.engine.specs.Step.{fitting}
+use Rattle.checks.specs.Checks.{fitting}
 use Rattle.batch.proofs.Turns.{part-is, said-small, count-small, stays, turned-at}
 use borrow.Author.Needs.{needs}
 use Rattle.batch.proofs.one.Statement.{statement}

@@ -2,7 +2,7 @@ use denote.Ref.{now}
 use mathlib.Core.Path.{refl, sym, ap, _∙_}
 use Prim.Native.Nat.{ℕ}
 use borrow.Author.Tests.{not-true, not-false}
-use Rattle.engine.specs.Step.{fitting}
+use Rattle.checks.specs.Checks.{fitting}
 use Rattle.engine.proofs.Stepping.{unfit-refused, did-refuse}
 use borrow.Author.Needs.{needs}
 use Rattle.engine.proofs.step.on_table.Statement.{statement}

@@ -1,2 +1,0 @@
-pub mod Shifts
-pub mod Arrive

@@ -1,9 +1,0 @@
-use mathlib.Core.Bool.{or-false}
-use Rattle.broadcast.proofs.cast.is_broadcast.Statement.{statement}
-use Rattle.broadcast.proofs.cast.is_broadcast.Tie as tie
-
-returns : tie.Need-returns
-returns c = rw (or-false _)
-
-pub is-broadcast-spec : {M : Type 1} → statement M
-is-broadcast-spec = tie.close (tie.spec returns)

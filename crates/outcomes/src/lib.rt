@@ -1,0 +1,45 @@
+// Outcomes as the paper's numbers, and what an event is answered. [H7]
+use model::Outcome;
+ghost use mathlib.Core.Path.{_≡_};
+ghost use Rattle.model.specs.Outcomes.{numberOf};
+ghost use Rattle.outcomes.specs.Done.{doneWith};
+
+// The paper's number of the outcome, and how many messages stand in the tray.
+#[repr(C)]
+pub struct Answer {
+    pub outcome: u64,
+    pub count: u64,
+}
+
+// The paper's number of an outcome.
+pub fn number(o: Outcome) -> u64
+    ensures { λ r. ⌜ r ≡ numberOf o ⌝ }
+{
+    match o {
+        Outcome::Done => 0,
+        Outcome::Unsound => 1,
+        Outcome::Malformed => 2,
+        Outcome::Absent => 3,
+        Outcome::Unlisted => 4,
+        Outcome::Unknown => 5,
+        Outcome::Standless => 6,
+        Outcome::Misplaced => 7,
+        Outcome::Early => 8,
+        Outcome::Unfit => 9,
+        Outcome::Busy => 10,
+        Outcome::Unawaited => 11,
+        Outcome::NotCurrent => 12,
+        Outcome::Full => 13,
+        Outcome::Exhausted => 14,
+    }
+}
+
+// An event that is done, and so many messages.
+pub fn done(count: usize) -> Answer
+    ensures { λ r. ⌜ r ≡ doneWith count ⌝ }
+{
+    Answer {
+        outcome: 0,
+        count: count as u64,
+    }
+}
