@@ -11,7 +11,8 @@ use Rattle.model.proofs.Lists.{conj, conj-at, conj-all}
 use Rattle.model.specs.Basics.{All, none, with}
 use Rattle.model.specs.Sound.{retriesInRange, castInRange, inRange, sidesDiffer, newWhole, oldWhole, oneCreated, sidesNeeded, causeFits, cancellerFits, setsApart, retriesFit, startFits, waitingFits, purposeFits, liveFits, liveConfirmed, soundVersion}
 use Rattle.sound.specs.Marks.{marksFit}
-use Rattle.sound.specs.Order.{outlineFits, shapeFits, timesFit, setsFit, retriesSound, castFits}
+use Rattle.sets.specs.Order.{setsFit, retriesSound}
+use Rattle.sound.specs.Order.{outlineFits, shapeFits, timesFit, castFits}
 
 pub same : (a b : Bool) → (a ≡ true → b ≡ true) → (b ≡ true → a ≡ true) → a ≡ b
 same true b f g = sym (f refl)

@@ -3,10 +3,10 @@
 use Prim.Native.Nat.{ℕ, _^_}
 use mathlib.Core.Bool.{Bool, _&&_}
 use lib.Dec.{ltb, leb}
-use Rattle.model.specs.declared.Broadcast.{Broadcast}
 use Rattle.model.specs.declared.Version.{Version}
-use Rattle.model.specs.Numbers.{tenDigits, isProvider, isSet, isTime, isNumber}
-use Rattle.model.specs.Sound.{retriesInRange, sidesDiffer, newWhole, oldWhole, causeFits, cancellerFits, setsApart, retriesFit, startFits, waitingFits, liveConfirmed}
+use Rattle.model.specs.Numbers.{tenDigits, isProvider, isTime, isNumber}
+use Rattle.model.specs.Sound.{sidesDiffer, newWhole, oldWhole, causeFits, cancellerFits, startFits, waitingFits, liveConfirmed}
+use Rattle.sets.specs.Order.{setsFit, retriesSound}
 use Rattle.sound.specs.Marks.{marksFit}
 
 -- the ranges of all but the times, the sets and the retries [V1]
@@ -24,13 +24,6 @@ shapeFits v =
 unfoldable pub timesFit : Version → Bool
 timesFit v = isTime (v .stamp) && ltb (v .cast .start) (2 ^ 32) && startFits v && waitingFits v
 
--- the sets [V1, V6]
-unfoldable pub setsFit : Broadcast → Bool
-setsFit c = isSet (c .confirmed) && isSet (c .waiting) && isSet (c .failed) && setsApart c
-
--- the retries [V1, V6]
-unfoldable pub retriesSound : Broadcast → Bool
-retriesSound c = retriesInRange (c .retries) && retriesFit c
-
+-- the times, the sets, who confirmed, and the retries
 unfoldable pub castFits : Version → Bool
 castFits v = timesFit v && setsFit (v .cast) && liveConfirmed v && retriesSound (v .cast)

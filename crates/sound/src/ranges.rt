@@ -1,9 +1,7 @@
 // Values in their ranges.
-use model::Retries;
 use model::Version;
 ghost use mathlib.Core.Path.{_≡_};
-ghost use Rattle.model.specs.Numbers.{tenDigits, isProvider, isSet, isTime, isNumber};
-ghost use Rattle.model.specs.Sound.{retriesInRange};
+ghost use Rattle.model.specs.Numbers.{tenDigits, isProvider, isTime, isNumber};
 ghost use Rattle.sound.specs.Order.{outlineFits};
 
 // Ten digits, the first and the fourth of them 2 to 9: the last seven say 2,000,000 or more.
@@ -29,18 +27,6 @@ fn is_provider(p: u8) -> bool
     ensures { λ r. ⌜ r ≡ isProvider p ⌝ }
 {
     (1 <= p) & (p <= 63)
-}
-
-pub fn is_set(s: u64) -> bool
-    ensures { λ r. ⌜ r ≡ isSet s ⌝ }
-{
-    s % 2 == 0
-}
-
-pub fn retries_in_range(r: Retries) -> bool
-    ensures { λ b. ⌜ b ≡ retriesInRange r ⌝ }
-{
-    (r.low < 9223372036854775808) & (r.mid < 9223372036854775808) & (r.high < 9223372036854775808)
 }
 
 // All but the times, the sets and the retries.

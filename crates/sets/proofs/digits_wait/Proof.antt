@@ -1,12 +1,12 @@
 -- `cast::digits_wait` meets its contract. Assumes nothing.
 use native.Mathlib.Omega.{arith}
-use Rattle.sound.proofs.Waiting.{Left, left-start, left-end, left-next, left-stray, product-fits, stray-product, no-stray-product}
+use Rattle.sets.proofs.Waiting.{Left, left-start, left-end, left-next, left-stray, product-fits, stray-product, no-stray-product}
 use Prim.Native.Nat.{_%_}
 use native.Mathlib.Nat.{mod-lt}
 use lib.Dec.{lit<}
 use borrow.Author.Needs.{needs}
-use Rattle.sound.proofs.cast.digits_wait.Statement.{statement}
-use Rattle.sound.proofs.cast.digits_wait.Tie as tie
+use Rattle.sets.proofs.digits_wait.Statement.{statement}
+use Rattle.sets.proofs.digits_wait.Tie as tie
 
 abbrev Inv-loop : tie.InvT-loop
 Inv-loop word set w₀ s₀ w s = Left word set w s

@@ -14,7 +14,7 @@ use Rattle.model.specs.declared.Broadcast.{Broadcast}
 use Rattle.model.specs.Basics.{every}
 use Rattle.model.specs.Retries.{octal, used}
 use Rattle.model.specs.Sound.{apart, retriesInRange, retriesFit}
-use Rattle.sound.specs.Order.{retriesSound}
+use Rattle.sets.specs.Order.{retriesSound}
 use Rattle.model.proofs.Lists.{clash}
 use Rattle.model.proofs.SoundSets.{every-at, every-all}
 

@@ -1,11 +1,11 @@
 -- `cast::all_wait` meets its contract. Assumes nothing.
 use mathlib.Core.Path.{sym, _∙_}
 use borrow.Author.Tests.{not-true, not-false}
-use Rattle.sound.proofs.Waiting.{three-words}
+use Rattle.sets.proofs.Waiting.{three-words}
 use borrow.Author.Needs.{needs}
-use Rattle.sound.proofs.cast.all_wait.Statement.{statement}
-use Rattle.sound.proofs.cast.all_wait.Tie as tie
-use Rattle.sound.proofs.cast.digits_wait.Reads as digits-wait-reads
+use Rattle.sets.proofs.all_wait.Statement.{statement}
+use Rattle.sets.proofs.all_wait.Tie as tie
+use Rattle.sets.proofs.digits_wait.Reads as digits-wait-reads
 
 digits-wait-requires : tie.Need-digits-wait-requires
 digits-wait-requires c κs = search needs

@@ -1,8 +1,8 @@
 -- `cast::sets_fit` meets its contract. Assumes nothing.
-use Rattle.sound.specs.Order.{setsFit}
+use Rattle.sets.specs.Order.{setsFit}
 use borrow.Author.Needs.{needs}
-use Rattle.sound.proofs.cast.sets_fit.Statement.{statement}
-use Rattle.sound.proofs.cast.sets_fit.Tie as tie
+use Rattle.sets.proofs.sets_fit.Statement.{statement}
+use Rattle.sets.proofs.sets_fit.Tie as tie
 
 is-set-requires : tie.Need-is-set-requires
 is-set-requires c κs = search needs

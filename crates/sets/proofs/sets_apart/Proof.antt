@@ -1,8 +1,8 @@
 -- `cast::sets_apart` meets its contract. Assumes nothing.
 use Rattle.model.specs.Sound.{setsApart}
 use borrow.Author.Needs.{needs}
-use Rattle.sound.proofs.cast.sets_apart.Statement.{statement}
-use Rattle.sound.proofs.cast.sets_apart.Tie as tie
+use Rattle.sets.proofs.sets_apart.Statement.{statement}
+use Rattle.sets.proofs.sets_apart.Tie as tie
 
 disjoint-requires : tie.Need-disjoint-requires
 disjoint-requires c κs = search needs

@@ -14,8 +14,8 @@ use Rattle.model.specs.declared.Broadcast.{Broadcast}
 use Rattle.model.specs.Basics.{every}
 use Rattle.model.specs.Retries.{octal, used}
 use Rattle.model.specs.Sound.{retriesFit}
-use Rattle.sound.specs.Digits.{digitsWait}
-use Rattle.sound.proofs.Everys.{waits}
+use Rattle.sets.specs.Digits.{digitsWait}
+use Rattle.sets.proofs.Everys.{waits}
 
 -- ---- the loop
 

@@ -1,8 +1,8 @@
 -- `ranges::retries_in_range` meets its contract. Assumes nothing.
 use borrow.Author.Needs.{needs}
 use Rattle.model.specs.Sound.{retriesInRange}
-use Rattle.sound.proofs.ranges.retries_in_range.Statement.{statement}
-use Rattle.sound.proofs.ranges.retries_in_range.Tie as tie
+use Rattle.sets.proofs.retries_in_range.Statement.{statement}
+use Rattle.sets.proofs.retries_in_range.Tie as tie
 
 returns : tie.Need-returns
 unfolding retriesInRange

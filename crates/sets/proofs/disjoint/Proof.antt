@@ -1,8 +1,8 @@
 -- `cast::disjoint` meets its contract. Assumes nothing.
 use borrow.Author.Needs.{needs}
-use Rattle.sound.proofs.Everys.{apart-and}
-use Rattle.sound.proofs.cast.disjoint.Statement.{statement}
-use Rattle.sound.proofs.cast.disjoint.Tie as tie
+use Rattle.sets.proofs.Everys.{apart-and}
+use Rattle.sets.proofs.disjoint.Statement.{statement}
+use Rattle.sets.proofs.disjoint.Tie as tie
 
 returns : tie.Need-returns
 returns c = apart-and (c .args .a) (c .args .b) (search needs)

@@ -1,9 +1,9 @@
 -- `cast::retries_sound` meets its contract. Assumes nothing.
 use mathlib.Core.Path.{sym}
-use Rattle.sound.proofs.Everys.{retries-zero}
+use Rattle.sets.proofs.Everys.{retries-zero}
 use borrow.Author.Needs.{needs}
-use Rattle.sound.proofs.cast.retries_sound.Statement.{statement}
-use Rattle.sound.proofs.cast.retries_sound.Tie as tie
+use Rattle.sets.proofs.retries_sound.Statement.{statement}
+use Rattle.sets.proofs.retries_sound.Tie as tie
 
 returns : tie.Need-returns
 returns c = sym (retries-zero (c .before .before .before .before .before .before .args .c) (c .before .before .before .before .if1 .taken) (c .before .before .if2 .taken) (c .if3 .taken))

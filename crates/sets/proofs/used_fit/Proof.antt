@@ -1,10 +1,10 @@
 -- `cast::used_fit` meets its contract. Assumes nothing.
 use mathlib.Core.Path.{sym, _∙_}
 use borrow.Author.Tests.{not-true, not-false}
-use Rattle.sound.specs.Order.{retriesSound}
+use Rattle.sets.specs.Order.{retriesSound}
 use borrow.Author.Needs.{needs}
-use Rattle.sound.proofs.cast.used_fit.Statement.{statement}
-use Rattle.sound.proofs.cast.used_fit.Tie as tie
+use Rattle.sets.proofs.used_fit.Statement.{statement}
+use Rattle.sets.proofs.used_fit.Tie as tie
 
 retries-in-range-requires : tie.Need-retries-in-range-requires
 retries-in-range-requires c κs = search needs

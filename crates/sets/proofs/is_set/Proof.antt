@@ -2,8 +2,8 @@
 use Prim.Native.Nat.{_<_, _^_}
 use borrow.Author.Needs.{needs}
 use borrow.Author.Tests.{lt-ltb}
-use Rattle.sound.proofs.ranges.is_set.Statement.{statement}
-use Rattle.sound.proofs.ranges.is_set.Tie as tie
+use Rattle.sets.proofs.is_set.Statement.{statement}
+use Rattle.sets.proofs.is_set.Tie as tie
 
 returns : tie.Need-returns
 returns c =

@@ -1,0 +1,3 @@
+-- The crate's laws.
+pub mod Everys
+pub mod Waiting
