@@ -7,7 +7,7 @@ use native.Mathlib.Nat.{suc-mul, add-comm, mod-eq-of-lt}
 use native.Mathlib.Omega.{arith}
 use lib.ListN.{length, getD, take, drop, length-append, drop-of-length-le}
 use lib.Seq.{split-at, drop-drop, take-add, take-all, length-take-le}
-use Rattle.octets.specs.Octets.{Bytes, be, digits}
+use Rattle.octets.specs.Octets.{Bytes, be, digits, put}
 use Rattle.octets.specs.Laws.{length-digits, be-digits, digits-be, be-word, put-after}
 use Rattle.words.specs.declared.Words.{Words}
 use Rattle.words.specs.Size.{ROW}
@@ -36,6 +36,16 @@ stored-after (w ∷ ws) p r at e =
     ∙ ap (λ (l : List ℕ). q ++ (spelt ws ++ l)) (drop-drop (length ws * 8) 8 r ∙ ap (λ (j : ℕ). drop j r) k)
     ∙ append-assoc p (digits 8 w) (spelt ws ++ drop (length (w ∷ ws) * 8) r)
     ∙ ap (λ (l : List ℕ). p ++ l) (sym (append-assoc (digits 8 w) (spelt ws) (drop (length (w ∷ ws) * 8) r)))
+
+-- five words stored one after the other
+pub five : (b : List ℕ) (at v w x y z : ℕ) (b1 b2 b3 b4 b5 : List ℕ)
+    → b1 ≡ put 8 b at v → b2 ≡ put 8 b1 (at + 8) w → b3 ≡ put 8 b2 (at + 16) x → b4 ≡ put 8 b3 (at + 24) y → b5 ≡ put 8 b4 (at + 32) z
+    → b5 ≡ stored b at (v ∷ w ∷ x ∷ y ∷ z ∷ [])
+five b at v w x y z b1 b2 b3 b4 b5 e1 e2 e3 e4 e5 =
+    let p : at + 8 + 8 ≡ at + 16 = omega arith in
+    let q : at + 8 + 8 + 8 ≡ at + 24 = omega arith in
+    let r : at + 8 + 8 + 8 + 8 ≡ at + 32 = omega arith in
+    cc (e1, e2, e3, e4, e5, p, q, r)
 
 -- the ten words fill the row
 pub fill : (b : List ℕ) (w : Words) → length b ≡ ROW → stored (stored b 0 (firstOf w)) 40 (lastOf w) ≡ bytesOf w

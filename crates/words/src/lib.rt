@@ -1,8 +1,10 @@
 // Ten words in a slice of ROW bytes.
 ghost use mathlib.Core.Path.{_≡_};
+ghost use mathlib.Core.List.{[], _∷_};
+ghost use Prim.Native.Nat.{_+_, _≤_};
 ghost use lib.ListN.{length};
 ghost use Rattle.words.specs.Size.{ROW};
-ghost use Rattle.words.specs.Codec.{wordsIn, bytesOf, stored, firstOf, lastOf, isBlank, noWords};
+ghost use Rattle.words.specs.Codec.{wordsIn, bytesOf, stored, isBlank, noWords};
 
 // The size of a row in bytes.
 pub const ROW: usize = 80;
@@ -54,35 +56,24 @@ pub fn get(b: &[u8]) -> Words
     }
 }
 
-// The first five words, and then the other five.
-fn put_first(b: &mut [u8], w: Words)
-    requires { ⌜ length (now b) ≡ ROW ⌝ }
-    ensures { λ _. ⌜ now (b .exit) ≡ stored (now (b .entry)) 0 (firstOf w) ⌝ }
+// Five words, one after the other from `at`.
+fn put_five(b: &mut [u8], at: usize, v: u64, w: u64, x: u64, y: u64, z: u64)
+    requires { ⌜ at + 40 ≤ length (now b) ⌝ }
+    ensures { λ _. ⌜ now (b .exit) ≡ stored (now (b .entry)) at (v ∷ w ∷ x ∷ y ∷ z ∷ []) ⌝ }
 {
-    octets::put_u64(b, 0, w.head);
-    octets::put_u64(b, 8, w.terms);
-    octets::put_u64(b, 16, w.dues);
-    octets::put_u64(b, 24, w.times);
-    octets::put_u64(b, 32, w.confirmed);
-}
-
-fn put_last(b: &mut [u8], w: Words)
-    requires { ⌜ length (now b) ≡ ROW ⌝ }
-    ensures { λ _. ⌜ now (b .exit) ≡ stored (now (b .entry)) 40 (lastOf w) ⌝ }
-{
-    octets::put_u64(b, 40, w.waiting);
-    octets::put_u64(b, 48, w.failed);
-    octets::put_u64(b, 56, w.low);
-    octets::put_u64(b, 64, w.mid);
-    octets::put_u64(b, 72, w.high);
+    octets::put_u64(b, at, v);
+    octets::put_u64(b, at + 8, w);
+    octets::put_u64(b, at + 16, x);
+    octets::put_u64(b, at + 24, y);
+    octets::put_u64(b, at + 32, z);
 }
 
 pub fn put(b: &mut [u8], w: Words)
     requires { ⌜ length (now b) ≡ ROW ⌝ }
     ensures { λ _. ⌜ now (b .exit) ≡ bytesOf w ⌝ }
 {
-    put_first(b, w);
-    put_last(b, w);
+    put_five(b, 0, w.head, w.terms, w.dues, w.times, w.confirmed);
+    put_five(b, 40, w.waiting, w.failed, w.low, w.mid, w.high);
 }
 
 // Whether all bits are zero, as in a free row.
