@@ -1,8 +1,8 @@
 -- What sound bytes give a caller.
 -- Assumes nothing.
 use Prim.Native.Nat.{ℕ}
-use mathlib.Core.Path.{_≡_, sym, _∙_}
-use mathlib.Core.Bool.{true, false, _&&_}
+use mathlib.Core.Path.{_≡_}
+use mathlib.Core.Bool.{true, _&&_}
 use mathlib.Core.List.{List}
 use borrow.Author.Tests.{eqb-true}
 use lib.Dec.{eqb}
@@ -11,17 +11,20 @@ use Rattle.octets.specs.Fields.{and-l, and-r}
 use Rattle.model.specs.Books.{soundMarks, soundCodes, soundFilters, soundSplits, soundBooks}
 use Rattle.model.specs.declared.Marks.{Marks}
 use Rattle.books.specs.Packed.{bookBytes, rowPlaces, splitPlaces, headOf, codePlace, filterPlace, splitPlace, codesOf, filtersOf, splitsOf, packedFrom, decodeBooks, soundBytes}
-use Rattle.books.specs.Scan.{scan}
-use Rattle.books.specs.Sound.{rowTest, splitTest, sound-parts}
 
 module _ (m : Marks) (bs : List ℕ) (e : soundBytes m bs ≡ true) where
   -- they have the books' length
   pub sound-length : length bs ≡ bookBytes
+  unfolding soundBytes
   sound-length =
       eqb-true (length bs) bookBytes
-      (and-l (eqb (length bs) bookBytes)
-      (eqb (headOf bs) 0 && (soundMarks m && (scan (rowTest false m) (codePlace bs) rowPlaces 0 0 && (scan (rowTest true m) (filterPlace bs) rowPlaces 0 0 && scan splitTest (splitPlace bs) splitPlaces 0 0))))
-      (sym (sound-parts m bs) ∙ e))
+      (and-l (eqb (length bs) bookBytes) (eqb (headOf bs) 0)
+      (and-l (eqb (length bs) bookBytes && eqb (headOf bs) 0) (packedFrom (codePlace bs) rowPlaces 0)
+      (and-l (eqb (length bs) bookBytes && eqb (headOf bs) 0 && packedFrom (codePlace bs) rowPlaces 0) (packedFrom (filterPlace bs) rowPlaces 0)
+      (and-l (eqb (length bs) bookBytes && eqb (headOf bs) 0 && packedFrom (codePlace bs) rowPlaces 0 && packedFrom (filterPlace bs) rowPlaces 0) (packedFrom (splitPlace bs) splitPlaces 0)
+      (and-l
+      (eqb (length bs) bookBytes && eqb (headOf bs) 0 && packedFrom (codePlace bs) rowPlaces 0 && packedFrom (filterPlace bs) rowPlaces 0 && packedFrom (splitPlace bs) splitPlaces 0)
+      (soundBooks (decodeBooks m bs)) e)))))
 
   -- they are sound books
   pub sound-books : soundBooks (decodeBooks m bs) ≡ true

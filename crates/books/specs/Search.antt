@@ -1,11 +1,15 @@
--- The searches through codes and pairs: what a row decides, and what it leaves to the rows behind it. A row is a number, as its place says it.
+-- The searches through codes and pairs: what a place decides, and what it leaves to the places behind it.
 -- Assumes nothing.
-use Prim.Native.Nat.{ℕ, _/_, _%_, _^_}
-use mathlib.Core.Path.{_≡_}
+use Prim.Native.Nat.{ℕ, _+_, _/_, _%_, _^_, _<_}
+use mathlib.Core.Path.{_≡_, refl, sym, ap, _∙_}
+use mathlib.Core.Bool.{Bool, true, false, _||_, false≢true}
 use mathlib.Core.List.{List, _∷_, map}
-use borrow.Author.Tests.{eq-eqb, ne-eqb}
+use native.Mathlib.Omega.{arith}
+use borrow.Author.Tests.{eq-eqb, ne-eqb, eqb-true, eqb-false}
+use lib.Dec.{eqb}
 use Rattle.model.specs.Books.{ownerIn, partnerIn}
 use Rattle.books.specs.Packed.{ownedOf, splitOf}
+use Rattle.books.specs.Places.{restOf, used-none, used-more}
 
 abbrev pub ownerBy : ℕ → List ℕ → ℕ
 ownerBy c rows = ownerIn c (map ownedOf rows)
@@ -13,19 +17,42 @@ ownerBy c rows = ownerIn c (map ownedOf rows)
 abbrev pub partnerBy : ℕ → List ℕ → ℕ
 partnerBy c rows = partnerIn c (map splitOf rows)
 
--- the first row is x
-module _ (c : ℕ) {x : ℕ} {rows rest : List ℕ} (row : rows ≡ x ∷ rest) where
-  pub owner-here : x / 64 ≡ c → ownerBy c rows ≡ x % 64
-  owner-here e = rw (row, eq-eqb (x / 64) c e)
+neither : (a b : Bool) → (a || b) ≡ false → (a ≡ false) × (b ≡ false)
+neither false b e = (refl, e)
+neither true b e = absurd (false≢true (sym e))
 
-  pub owner-next : (x / 64 ≡ c → ⊥) → ownerBy c rows ≡ ownerBy c rest
-  owner-next ne = rw (row, ne-eqb (x / 64) c ne)
+-- place i is x, of n in all
+module _ (c : ℕ) (w : ℕ → ℕ) (n i x : ℕ) (h : i < n) (hx : x ≡ w i) where
+  used : eqb x 0 ≡ false → restOf w n i ≡ x ∷ restOf w n (i + 1)
+  used e = used-more w n i x h hx (eqb-false x 0 e)
 
-  pub partner-one : x / 2 ^ 32 ≡ c → partnerBy c rows ≡ x % 2 ^ 32
-  partner-one e = rw (row, eq-eqb (x / 2 ^ 32) c e)
+  -- free, or the code's: a free one says 0
+  pub owner-here : (eqb x 0 || eqb (x / 64) c) ≡ true → ownerBy c (restOf w n i) ≡ x % 64
+  owner-here e = go (eqb x 0) refl e
+    where
+      go : (b : Bool) → eqb x 0 ≡ b → (b || eqb (x / 64) c) ≡ true → ownerBy c (restOf w n i) ≡ x % 64
+      go true z t =
+          let o : x ≡ 0 = eqb-true x 0 z in
+          let r : 0 ≡ x % 64 = omega arith in
+          ap (ownerBy c) (used-none w n i x hx o) ∙ r
+      go false u t = rw (used u, t)
 
-  pub partner-other : (x / 2 ^ 32 ≡ c → ⊥) → x % 2 ^ 32 ≡ c → partnerBy c rows ≡ x / 2 ^ 32
-  partner-other ne e = rw (row, ne-eqb (x / 2 ^ 32) c ne, eq-eqb (x % 2 ^ 32) c e)
+  pub owner-next : (eqb x 0 || eqb (x / 64) c) ≡ false → ownerBy c (restOf w n i) ≡ ownerBy c (restOf w n (i + 1))
+  owner-next e = rw (used (neither (eqb x 0) (eqb (x / 64) c) e .0), neither (eqb x 0) (eqb (x / 64) c) e .1)
 
-  pub partner-next : (x / 2 ^ 32 ≡ c → ⊥) → (x % 2 ^ 32 ≡ c → ⊥) → partnerBy c rows ≡ partnerBy c rest
-  partner-next ne nf = rw (row, ne-eqb (x / 2 ^ 32) c ne, ne-eqb (x % 2 ^ 32) c nf)
+  pub partner-one : (eqb x 0 || eqb (x / 2 ^ 32) c) ≡ true → partnerBy c (restOf w n i) ≡ x % 2 ^ 32
+  partner-one e = go (eqb x 0) refl e
+    where
+      go : (b : Bool) → eqb x 0 ≡ b → (b || eqb (x / 2 ^ 32) c) ≡ true → partnerBy c (restOf w n i) ≡ x % 2 ^ 32
+      go true z t =
+          let o : x ≡ 0 = eqb-true x 0 z in
+          let r : 0 ≡ x % 2 ^ 32 = omega arith in
+          ap (partnerBy c) (used-none w n i x hx o) ∙ r
+      go false u t = rw (used u, t)
+
+  module _ (e : (eqb x 0 || eqb (x / 2 ^ 32) c) ≡ false) where
+    pub partner-other : x % 2 ^ 32 ≡ c → partnerBy c (restOf w n i) ≡ x / 2 ^ 32
+    partner-other q = rw (used (neither (eqb x 0) (eqb (x / 2 ^ 32) c) e .0), neither (eqb x 0) (eqb (x / 2 ^ 32) c) e .1, eq-eqb (x % 2 ^ 32) c q)
+
+    pub partner-next : (x % 2 ^ 32 ≡ c → ⊥) → partnerBy c (restOf w n i) ≡ partnerBy c (restOf w n (i + 1))
+    partner-next q = rw (used (neither (eqb x 0) (eqb (x / 2 ^ 32) c) e .0), neither (eqb x 0) (eqb (x / 2 ^ 32) c) e .1, ne-eqb (x % 2 ^ 32) c q)

@@ -66,7 +66,7 @@ fn books_fit(providers: &[u8], books: &[u8]) -> bool {
         files::say_of(BOOKS, b"the books are not 8,712 bytes");
         return false;
     }
-    let kept = books::sound(l.marks, books);
+    let kept = audit::sound(l.marks, books);
     if !kept {
         files::say_of(BOOKS, b"the books are unsound");
     }

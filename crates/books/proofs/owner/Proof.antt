@@ -5,7 +5,7 @@ use Prim.Native.Nat.{_-_}
 use mathlib.Core.Path.{_≡_, refl, sym, ap, _∙_}
 use Rattle.model.specs.Books.{ownerOf}
 use Rattle.books.specs.Packed.{codePlace, rowPlaces}
-use Rattle.books.specs.Places.{restOf, used-none, used-more, used-end}
+use Rattle.books.specs.Places.{restOf, used-end}
 use Rattle.books.specs.Search.{ownerBy, owner-here, owner-next}
 use Rattle.books.proofs.owner.Statement.{statement}
 use Rattle.books.proofs.owner.Tie as tie
@@ -28,18 +28,13 @@ add-u32-at c = search needs
 u32-at-requires : tie.Need-u32-at-requires Inv-loop μ-loop
 u32-at-requires c κs = search needs
 
-returns : tie.Need-returns Inv-loop μ-loop
-unfolding ownerOf
-returns c =
-    λ m. sym (c .before .before .before .loop .inv ∙ ap (ownerBy _) (used-none (codePlace _) rowPlaces _ _ (c .before .u32-at .ensures) (c .if1 .taken)))
-
 cast-result : tie.Need-cast-result Inv-loop μ-loop
 cast-result c = search needs
 
-returns-2 : tie.Need-returns-2 Inv-loop μ-loop
+returns : tie.Need-returns Inv-loop μ-loop
 unfolding ownerOf
-returns-2 c =
-    λ m. sym (c .before .before .before .before .loop .inv ∙ owner-here _ (used-more (codePlace _) rowPlaces _ _ (c .before .before .before .loop-test .taken) (c .before .before .u32-at .ensures) (c .before .if1 .left)) (c .if2 .taken))
+returns c =
+    λ m. sym (c .before .before .before .loop .inv ∙ owner-here _ (codePlace _) rowPlaces _ _ (c .before .before .loop-test .taken) (c .before .u32-at .ensures) (c .if1 .taken))
 
 add-i : tie.Need-add-i Inv-loop μ-loop
 add-i c = search needs
@@ -49,11 +44,11 @@ loop-less c = search needs
 
 loop-again : tie.Need-loop-again Inv-loop μ-loop
 loop-again c =
-    c .before .before .before .before .loop .inv ∙ owner-next _ (used-more (codePlace _) rowPlaces _ _ (c .before .before .before .loop-test .taken) (c .before .before .u32-at .ensures) (c .before .if1 .left)) (c .if2 .left)
+    c .before .before .before .loop .inv ∙ owner-next _ (codePlace _) rowPlaces _ _ (c .before .before .loop-test .taken) (c .before .u32-at .ensures) (c .if1 .left)
 
-returns-3 : tie.Need-returns-3 Inv-loop μ-loop
+returns-2 : tie.Need-returns-2 Inv-loop μ-loop
 unfolding ownerOf
-returns-3 c =
+returns-2 c =
     λ m. sym (c .before .loop .inv ∙ ap (ownerBy _) (used-end (codePlace _) rowPlaces _ (c .loop-test .left)))
 
 pub owner-spec : {M : Type 1} → statement M
@@ -66,10 +61,9 @@ owner-spec =
     mul-u32-at
     add-u32-at
     u32-at-requires
-    returns
     cast-result
-    returns-2
+    returns
     add-i
     loop-less
     loop-again
-    returns-3)
+    returns-2)

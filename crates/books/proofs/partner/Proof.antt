@@ -5,7 +5,7 @@ use Prim.Native.Nat.{_-_}
 use mathlib.Core.Path.{_≡_, refl, sym, ap, _∙_}
 use Rattle.model.specs.Books.{partnerOf}
 use Rattle.books.specs.Packed.{splitPlace, splitPlaces}
-use Rattle.books.specs.Places.{restOf, used-none, used-more, used-end}
+use Rattle.books.specs.Places.{restOf, used-end}
 use Rattle.books.specs.Search.{partnerBy, partner-one, partner-other, partner-next}
 use Rattle.books.proofs.partner.Statement.{statement}
 use Rattle.books.proofs.partner.Tie as tie
@@ -31,17 +31,12 @@ u64-at-requires c κs = search needs
 returns : tie.Need-returns Inv-loop μ-loop
 unfolding partnerOf
 returns c =
-    λ m. sym (c .before .before .before .loop .inv ∙ ap (partnerBy _) (used-none (splitPlace _) splitPlaces _ _ (c .before .u64-at .ensures) (c .if1 .taken)))
+    λ m. sym (c .before .before .before .loop .inv ∙ partner-one _ (splitPlace _) splitPlaces _ _ (c .before .before .loop-test .taken) (c .before .u64-at .ensures) (c .if1 .taken))
 
 returns-2 : tie.Need-returns-2 Inv-loop μ-loop
 unfolding partnerOf
 returns-2 c =
-    λ m. sym (c .before .before .before .before .loop .inv ∙ partner-one _ (used-more (splitPlace _) splitPlaces _ _ (c .before .before .before .loop-test .taken) (c .before .before .u64-at .ensures) (c .before .if1 .left)) (c .if2 .taken))
-
-returns-3 : tie.Need-returns-3 Inv-loop μ-loop
-unfolding partnerOf
-returns-3 c =
-    λ m. sym (c .before .before .before .before .before .loop .inv ∙ partner-other _ (used-more (splitPlace _) splitPlaces _ _ (c .before .before .before .before .loop-test .taken) (c .before .before .before .u64-at .ensures) (c .before .before .if1 .left)) (c .before .if2 .left) (c .if3 .taken))
+    λ m. sym (c .before .before .before .before .loop .inv ∙ partner-other _ (splitPlace _) splitPlaces _ _ (c .before .before .before .loop-test .taken) (c .before .before .u64-at .ensures) (c .before .if1 .left) (c .if2 .taken))
 
 add-i : tie.Need-add-i Inv-loop μ-loop
 add-i c = search needs
@@ -51,11 +46,11 @@ loop-less c = search needs
 
 loop-again : tie.Need-loop-again Inv-loop μ-loop
 loop-again c =
-    c .before .before .before .before .before .loop .inv ∙ partner-next _ (used-more (splitPlace _) splitPlaces _ _ (c .before .before .before .before .loop-test .taken) (c .before .before .before .u64-at .ensures) (c .before .before .if1 .left)) (c .before .if2 .left) (c .if3 .left)
+    c .before .before .before .before .loop .inv ∙ partner-next _ (splitPlace _) splitPlaces _ _ (c .before .before .before .loop-test .taken) (c .before .before .u64-at .ensures) (c .before .if1 .left) (c .if2 .left)
 
-returns-4 : tie.Need-returns-4 Inv-loop μ-loop
+returns-3 : tie.Need-returns-3 Inv-loop μ-loop
 unfolding partnerOf
-returns-4 c =
+returns-3 c =
     λ m. sym (c .before .loop .inv ∙ ap (partnerBy _) (used-end (splitPlace _) splitPlaces _ (c .loop-test .left)))
 
 pub partner-spec : {M : Type 1} → statement M
@@ -70,8 +65,7 @@ partner-spec =
     u64-at-requires
     returns
     returns-2
-    returns-3
     add-i
     loop-less
     loop-again
-    returns-4)
+    returns-3)
