@@ -16,6 +16,7 @@ use Rattle.rows.specs.Table.{decode}
 use Rattle.scan.specs.Sound.{SoundTable, soundnessOf, rowsIn}
 use Rattle.scan.specs.declared.Soundness.the-variants.{Sound}
 use Rattle.tray.specs.Tray.{placesIn, putAll}
+use Rattle.outcomes.specs.Answered.{noted}
 use Rattle.outcomes.specs.declared.Answer.{Answer}
 use Rattle.engine.specs.Event.{Did, tableAfter}
 use Rattle.checks.specs.Checks.{fitting}
@@ -73,13 +74,13 @@ module _ (l : Listed) (b : List ℕ) (most : ℕ) (e t y o : List ℕ) (i m : �
       pub stays : Again t u
       stays = subst (λ (v : List ℕ). Again t v) (sym (did .table)) (again l b most e t (drop k y) n st sc)
 
-      pub turned : (used : ℕ) → used ≡ length (decode u) → k ≤ length y
-          → Turned X S (record { table = u; tray = putMid k (length y - k) y z; outs = set (set o (2 * i) (a .outcome)) (2 * i + 1) (a .count); events = suc i; messages = m + a .count }) used
-      turned used q h = record {
+      pub turned : (used : ℕ) → used ≡ length (decode u) → k ≤ length y → (outs : List ℕ) → outs ≡ noted o i a
+          → Turned X S (record { table = u; tray = putMid k (length y - k) y z; outs = outs; events = suc i; messages = m + a .count }) used
+      turned used q h outs p = record {
         is = λ j. record {
           table = did .table j;
           tray = (part-put y z k h ∙ ap (λ (r : List ℕ). take k y ++ r) (did .tray)) j;
-          outs = set (set o (2 * i) (did .outcome j)) (2 * i + 1) (did .count j);
+          outs = (p ∙ ap₂ (λ (x c : ℕ). set (set o (2 * i) x) (2 * i + 1) c) (did .outcome) (did .count)) j;
           events = suc i;
           messages = m + did .count j;
         };
@@ -87,7 +88,7 @@ module _ (l : Listed) (b : List ℕ) (most : ℕ) (e t y o : List ℕ) (i m : �
         scanned = stays .scanned ∙ ap Sound (sym q);
       }
 
-      pub turned-at : (used : ℕ) → used ≡ length (decode u) → k ≤ length y → (s : Stand) → s ≡ S
-          → Turned (resultAt l b most e s) s (record { table = u; tray = putMid k (length y - k) y z; outs = set (set o (2 * i) (a .outcome)) (2 * i + 1) (a .count); events = suc i; messages = m + a .count }) used
-      turned-at used q h s w =
-          subst (λ (v : Stand). Turned (resultAt l b most e v) v (record { table = u; tray = putMid k (length y - k) y z; outs = set (set o (2 * i) (a .outcome)) (2 * i + 1) (a .count); events = suc i; messages = m + a .count }) used) (sym w) (turned used q h)
+      pub turned-at : (used : ℕ) → used ≡ length (decode u) → k ≤ length y → (outs : List ℕ) → outs ≡ noted o i a → (s : Stand) → s ≡ S
+          → Turned (resultAt l b most e s) s (record { table = u; tray = putMid k (length y - k) y z; outs = outs; events = suc i; messages = m + a .count }) used
+      turned-at used q h outs p s w =
+          subst (λ (v : Stand). Turned (resultAt l b most e v) v (record { table = u; tray = putMid k (length y - k) y z; outs = outs; events = suc i; messages = m + a .count }) used) (sym w) (turned used q h outs p)

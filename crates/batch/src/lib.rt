@@ -52,8 +52,7 @@ fn one(
 {
     let at = MESSAGE * messages;
     let a = engine::step::on_fitting(table, n, l, books, most, event, &mut tray[at..]);
-    outs[2 * i] = a.outcome as u8;
-    outs[2 * i + 1] = a.count as u8;
+    outcomes::note(outs, i, a);
     let used = table::count::used(table, n);
     Turn {
         used,

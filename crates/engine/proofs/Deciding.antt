@@ -34,7 +34,7 @@ use Rattle.table.specs.declared.survey.Facts.{Facts}
 use Rattle.tray.specs.Tray.{putAll}
 use Rattle.act.specs.Act.{Acted, Creatable}
 use Rattle.engine.specs.Event.{Ready, Did, givenTo}
-use Rattle.outcomes.specs.Done.{doneWith}
+use Rattle.outcomes.specs.Answered.{doneWith}
 use Rattle.judge.specs.Judged.{createFor, absentIn}
 use Rattle.outcomes.specs.declared.Answer.{Answer}
 use Rattle.judge.proofs.Judging.{zero-done, other-refused, create-judged}

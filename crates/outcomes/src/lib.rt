@@ -2,7 +2,9 @@
 use model::Outcome;
 ghost use mathlib.Core.Path.{_≡_};
 ghost use Rattle.model.specs.Outcomes.{numberOf};
-ghost use Rattle.outcomes.specs.Done.{doneWith};
+ghost use Prim.Native.Nat.{_+_, _*_, _<_, _≤_};
+ghost use lib.ListN.{length};
+ghost use Rattle.outcomes.specs.Answered.{doneWith, noted};
 
 // The paper's number of the outcome, and how many messages stand in the tray.
 #[repr(C)]
@@ -42,4 +44,13 @@ pub fn done(count: usize) -> Answer
         outcome: 0,
         count: count as u64,
     }
+}
+
+// The outcome and the count of the i-th event of a run, in two bytes.
+pub fn note(outs: &mut [u8], i: usize, a: Answer)
+    requires { ⌜ (a .outcome < 256) × (a .count < 256) × (2 * i + 2 ≤ length (now outs)) ⌝ }
+    ensures { λ _. ⌜ now (outs .exit) ≡ noted (now (outs .entry)) i a ⌝ }
+{
+    outs[2 * i] = a.outcome as u8;
+    outs[2 * i + 1] = a.count as u8;
 }

@@ -3,9 +3,7 @@ use mathlib.Core.Path.{_≡_, sym, ap, _∙_, subst}
 use Prim.Native.Nat.{ℕ, _≤_, _<_, _*_}
 use native.Mathlib.Omega.{arith}
 use mathlib.Core.List.{List}
-use lib.ListN.{length, length-set}
 use Rattle.tray.specs.Tray.{placesIn}
-use Rattle.scan.specs.Sound.{rowsIn}
 use Rattle.checks.specs.Checks.{fitting}
 use Rattle.batch.proofs.Turns.{part-is, said-small, count-small, stays, turned-at}
 use borrow.Author.Needs.{needs}
@@ -29,45 +27,22 @@ on-fitting-requires c κs =
     let s = c .before .before .before .before .before .before .before in
     (s .pre .0, (s .pre .1 .0, ap (λ (w : List ℕ). fitting (s .args .l) (now (s .args .books)) (s .args .most) (placesIn w)) (part-is (now (s .args .tray)) (24 * s .args .messages)) ∙ s .pre .1 .1))
 
-cast-outs : tie.Need-cast-outs
-cast-outs c =
+note-requires : tie.Need-note-requires
+note-requires c κs =
     let s = c .before .before .before .before .before .before .before .before .before .before .before .before .before in
-    let h = said-small (s .args .l) (now (s .args .books)) (s .args .most) (now (s .args .event)) (now (s .args .table)) (now (s .args .tray)) (now (s .args .outs)) (s .args .i) (s .args .messages) _ _ _ (c .before .before .before .before .before .on-fitting .ensures) in
-    search needs
-
-mul-outs : tie.Need-mul-outs
-mul-outs c = search needs
-
-slice-write-outs : tie.Need-slice-write-outs
-slice-write-outs c = search needs
-
-cast-outs-2 : tie.Need-cast-outs-2
-cast-outs-2 c =
-    let s = c .before .before .before .before .before .before .before .before .before .before .before .before .before .before in
-    let h = count-small (s .args .l) (now (s .args .books)) (s .args .most) (now (s .args .event)) (now (s .args .table)) (now (s .args .tray)) (now (s .args .outs)) (s .args .i) (s .args .messages) _ _ _ (c .before .before .before .before .before .before .on-fitting .ensures) in
-    search needs
-
-mul-outs-2 : tie.Need-mul-outs-2
-mul-outs-2 c = search needs
-
-add-outs : tie.Need-add-outs
-add-outs c = search needs
-
-slice-write-outs-2 : tie.Need-slice-write-outs-2
-slice-write-outs-2 c =
-    let s = c .before .before .before .before .before .before .before .before .before .before .before .before .before .before in
-    simp length-set (omega (arith, s .pre .1 .2))
+    let h = count-small (s .args .l) (now (s .args .books)) (s .args .most) (now (s .args .event)) (now (s .args .table)) (now (s .args .tray)) (now (s .args .outs)) (s .args .i) (s .args .messages) _ _ _ (c .before .before .before .before .before .on-fitting .ensures) in
+    (said-small (s .args .l) (now (s .args .books)) (s .args .most) (now (s .args .event)) (now (s .args .table)) (now (s .args .tray)) (now (s .args .outs)) (s .args .i) (s .args .messages) _ _ _ (c .before .before .before .before .before .on-fitting .ensures), omega (arith, h), s .pre .1 .2)
 
 used-requires : tie.Need-used-requires
 used-requires c κs =
-    let s = c .before .before .before .before .before .before .before .before .before .before .before .before .before .before .before in
-    let h = stays (s .args .l) (now (s .args .books)) (s .args .most) (now (s .args .event)) (now (s .args .table)) (now (s .args .tray)) (now (s .args .outs)) (s .args .i) (s .args .messages) _ _ _ (c .before .before .before .before .before .before .before .on-fitting .ensures) _ (s .pre .0) (s .pre .1 .0) in
+    let s = c .before .before .before .before .before .before .before .before .before .before .before .before .before .before .before .before .before in
+    let h = stays (s .args .l) (now (s .args .books)) (s .args .most) (now (s .args .event)) (now (s .args .table)) (now (s .args .tray)) (now (s .args .outs)) (s .args .i) (s .args .messages) _ _ _ (c .before .before .before .before .before .before .before .before .before .on-fitting .ensures) _ (s .pre .0) (s .pre .1 .0) in
     (h .table, subst (λ (r : ℕ). s .args .n ≤ r) (sym (h .rows)) (s .pre .0 .room))
 
-add-t22 : tie.Need-add-t22
-add-t22 c =
-    let s = c .before .before .before .before .before .before .before .before .before .before .before .before .before .before .before .before in
-    let h = count-small (s .args .l) (now (s .args .books)) (s .args .most) (now (s .args .event)) (now (s .args .table)) (now (s .args .tray)) (now (s .args .outs)) (s .args .i) (s .args .messages) _ _ _ (c .before .before .before .before .before .before .before .before .on-fitting .ensures) in
+add-t25 : tie.Need-add-t25
+add-t25 c =
+    let s = c .before .before .before .before .before .before .before .before .before .before .before .before .before .before .before .before .before .before in
+    let h = count-small (s .args .l) (now (s .args .books)) (s .args .most) (now (s .args .event)) (now (s .args .table)) (now (s .args .tray)) (now (s .args .outs)) (s .args .i) (s .args .messages) _ _ _ (c .before .before .before .before .before .before .before .before .before .before .on-fitting .ensures) in
     let g = s .pre .1 .3 in
     search needs
 
@@ -82,8 +57,8 @@ same-length-3 c = search needs
 
 returns : tie.Need-returns
 returns c =
-    let s = c .before .before .before .before .before .before .before .before .before .before .before .before .before .before .before .before in
-    turned-at (s .args .l) (now (s .args .books)) (s .args .most) (now (s .args .event)) (now (s .args .table)) (now (s .args .tray)) (now (s .args .outs)) (s .args .i) (s .args .messages) _ _ _ (c .before .before .before .before .before .before .before .before .on-fitting .ensures) _ (s .pre .0) (s .pre .1 .0) _ (c .used .ensures) (s .pre .1 .3)
+    let s = c .before .before .before .before .before .before .before .before .before .before .before .before .before .before .before .before .before .before in
+    turned-at (s .args .l) (now (s .args .books)) (s .args .most) (now (s .args .event)) (now (s .args .table)) (now (s .args .tray)) (now (s .args .outs)) (s .args .i) (s .args .messages) _ _ _ (c .before .before .before .before .before .before .before .before .before .before .on-fitting .ensures) _ (s .pre .0) (s .pre .1 .0) _ (c .used .ensures) (s .pre .1 .3) _ (c .before .before .before .before .note .ensures)
 
 pub one-spec : {M : Type 1} → statement M
 one-spec =
@@ -94,15 +69,9 @@ one-spec =
     part-on-fitting-start
     part-on-fitting-end
     on-fitting-requires
-    cast-outs
-    mul-outs
-    slice-write-outs
-    cast-outs-2
-    mul-outs-2
-    add-outs
-    slice-write-outs-2
+    note-requires
     used-requires
-    add-t22
+    add-t25
     same-length
     same-length-2
     same-length-3
