@@ -1,8 +1,9 @@
 // Whether bytes are sound books: one pass over each list of places. [B1, B2, B3, B4]
 ghost use mathlib.Core.Path.{_≡_};
 ghost use Prim.Native.Nat.{_+_, _*_, _≤_};
+ghost use lib.Dec.{eqb};
 ghost use lib.ListN.{length};
-ghost use Rattle.books.specs.Packed.{bookBytes, rowPlaces, splitPlaces, placeOf, splitPlace, soundBytes};
+ghost use Rattle.books.specs.Packed.{bookBytes, rowPlaces, splitPlaces, placeOf, headOf, splitPlace, soundBytes};
 ghost use Rattle.books.specs.Places.{restOf};
 ghost use Rattle.audit.specs.Scan.{scan};
 ghost use Rattle.audit.specs.Sound.{rowTest, apartFrom, goodSplit, splitTest};
@@ -86,6 +87,14 @@ fn sound_splits(books: &[u8]) -> bool
     true
 }
 
+// Whether the eight bytes at the head are free.
+fn head_free(books: &[u8]) -> bool
+    requires { ⌜ length (now books) ≡ bookBytes ⌝ }
+    ensures { λ r. ⌜ r ≡ eqb (headOf (now (books .entry))) 0 ⌝ }
+{
+    octets::u64_at(books, 0) == 0
+}
+
 // Whether the marks and the bytes are sound books, for any of them. [B1, B2, B3, B4]
 pub fn sound(marks: Marks, books: &[u8]) -> bool
     ensures { λ r. ⌜ r ≡ soundBytes marks (now (books .entry)) ⌝ }
@@ -93,7 +102,7 @@ pub fn sound(marks: Marks, books: &[u8]) -> bool
     if books.len() != books::BOOK_BYTES {
         return false;
     }
-    if octets::u64_at(books, 0) != 0 {
+    if !head_free(books) {
         return false;
     }
     if !providers::sound(marks) {

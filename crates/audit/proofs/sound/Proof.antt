@@ -14,8 +14,8 @@ returns c =
     (sound-parts (a .marks) (a .books .now)
     ∙ rw (ne-eqb _ _ (c .if1 .taken)))
 
-u64-at-requires : tie.Need-u64-at-requires
-u64-at-requires c κs = search needs
+head-free-requires : tie.Need-head-free-requires
+head-free-requires c κs = search needs
 
 returns-2 : tie.Need-returns-2
 returns-2 c =
@@ -24,7 +24,7 @@ returns-2 c =
     (sound-parts (a .marks) (a .books .now)
     ∙ rw (
       eq-eqb _ _ (c .before .before .if1 .left),
-      ne-eqb _ _ (λ q. c .if2 .taken (c .before .u64-at .ensures ∙ q)),
+      sym (c .before .head-free .ensures) ∙ not-true _ (c .if2 .taken),
     ))
 
 sound-requires : tie.Need-sound-requires
@@ -37,7 +37,7 @@ returns-3 c =
     (sound-parts (a .marks) (a .books .now)
     ∙ rw (
       eq-eqb _ _ (c .before .before .before .before .if1 .left),
-      eq-eqb _ _ (sym (c .before .before .before .u64-at .ensures) ∙ c .before .before .if2 .left),
+      sym (c .before .before .before .head-free .ensures) ∙ not-false _ (c .before .before .if2 .left),
       sym (c .before .sound .ensures) ∙ not-true _ (c .if3 .taken),
     ))
 
@@ -51,7 +51,7 @@ returns-4 c =
     (sound-parts (a .marks) (a .books .now)
     ∙ rw (
       eq-eqb _ _ (c .before .before .before .before .before .before .if1 .left),
-      eq-eqb _ _ (sym (c .before .before .before .before .before .u64-at .ensures) ∙ c .before .before .before .before .if2 .left),
+      sym (c .before .before .before .before .before .head-free .ensures) ∙ not-false _ (c .before .before .before .before .if2 .left),
       sym (c .before .before .before .sound .ensures) ∙ not-false _ (c .before .before .if3 .left),
       sym (c .before .sound-rows .ensures) ∙ not-true _ (c .if4 .taken),
     ))
@@ -66,7 +66,7 @@ returns-5 c =
     (sound-parts (a .marks) (a .books .now)
     ∙ rw (
       eq-eqb _ _ (c .before .before .before .before .before .before .before .before .if1 .left),
-      eq-eqb _ _ (sym (c .before .before .before .before .before .before .before .u64-at .ensures) ∙ c .before .before .before .before .before .before .if2 .left),
+      sym (c .before .before .before .before .before .before .before .head-free .ensures) ∙ not-false _ (c .before .before .before .before .before .before .if2 .left),
       sym (c .before .before .before .before .before .sound .ensures) ∙ not-false _ (c .before .before .before .before .if3 .left),
       sym (c .before .before .before .sound-rows .ensures) ∙ not-false _ (c .before .before .if4 .left),
       sym (c .before .sound-rows2 .ensures) ∙ not-true _ (c .if5 .taken),
@@ -82,7 +82,7 @@ returns-6 c =
     (sound-parts (a .marks) (a .books .now)
     ∙ rw (
       eq-eqb _ _ (c .before .before .before .before .before .before .before .before .before .if1 .left),
-      eq-eqb _ _ (sym (c .before .before .before .before .before .before .before .before .u64-at .ensures) ∙ c .before .before .before .before .before .before .before .if2 .left),
+      sym (c .before .before .before .before .before .before .before .before .head-free .ensures) ∙ not-false _ (c .before .before .before .before .before .before .before .if2 .left),
       sym (c .before .before .before .before .before .before .sound .ensures) ∙ not-false _ (c .before .before .before .before .before .if3 .left),
       sym (c .before .before .before .before .sound-rows .ensures) ∙ not-false _ (c .before .before .before .if4 .left),
       sym (c .before .before .sound-rows2 .ensures) ∙ not-false _ (c .before .if5 .left),
@@ -93,7 +93,7 @@ sound-spec =
     tie.close
     (tie.spec
     returns
-    u64-at-requires
+    head-free-requires
     returns-2
     sound-requires
     returns-3
