@@ -2,26 +2,19 @@
 // says that a file could not be read or written.
 use crate::files;
 use crate::files::EVENTS;
-use batch::Ran;
 use libc::STDERR_FILENO;
+ghost use mathlib.Core.Path.{_≡_};
+ghost use lib.ListN.{length};
 
 const RECORD: usize = 24;
 
 const MESSAGE: usize = 24;
-// So many records are read at once, and so many messages find room.
-const AT_ONCE: u64 = 1024;
-
-const TRAY_PLACES: u64 = 4096;
+// The messages that find room: 64 for each of the 1,024 records that are read at once.
+const TRAY_PLACES: u64 = 65536;
 // So many events and again so many: a line of progress.
 const PROGRESS: u64 = 10_000;
 
 const MOST_EVENTS: u64 = 18_446_744_073_709_551_615;
-
-// The place behind the events that were done, and how many bytes of records they were.
-struct Done {
-    place: u64,
-    bytes: usize,
-}
 
 fn put_next(fd: i32, n: u64) -> bool {
     let spaced = io::write_all(fd, b" ");
@@ -90,39 +83,35 @@ fn put_answers(fd: i32, first: u64, answers: &[u8], count: usize) -> u64 {
     place
 }
 
-fn nothing() -> Done {
-    Done { place: 0, bytes: 0 }
-}
-
-// What a run has left: the lines of its events, and its messages.
+// What a run has left: the lines of its events, and its messages. The place behind the last, or 0.
 fn put_run(
     place: u64,
     outcomes: i32,
     messages: i32,
-    tray: &[u8],
     answers: &[u8],
-    ran: Ran,
-) -> Done {
-    let count = ran.events;
-    if count > AT_ONCE {
-        return nothing();
-    }
-    let behind = put_answers(outcomes, place, answers, count as usize);
+    count: usize,
+    tray: &[u8],
+    told: u64,
+) -> u64 {
+    let behind = put_answers(outcomes, place, answers, count);
     if behind == 0 {
-        return nothing();
+        return 0;
     }
-    if !put_messages(messages, tray, ran.messages) {
+    if !put_messages(messages, tray, told) {
         files::fail(b"MESSAGES");
-        return nothing();
+        return 0;
     }
-    Done {
-        place: behind,
-        bytes: count as usize * RECORD,
-    }
+    behind
 }
 
-// As many of the records as the tray has room for.
-fn some(
+fn empty_tray() -> [u8; 1572864]
+    ensures { λ r. ⌜ 1572864 ≡ length r ⌝ }
+{
+    [0; 1572864]
+}
+
+// Whole records; the place behind them, or 0.
+fn whole(
     place: u64,
     outcomes: i32,
     messages: i32,
@@ -131,56 +120,32 @@ fn some(
     books: &[u8],
     most: u8,
     events: &[u8],
-    tray: &mut [u8],
-    answers: &mut [u8],
-) -> Done {
-    let ran = batch::run(table, providers, books, most, events, tray, answers);
-    if ran.outcome != 0 {
-        files::say(b"refused what was checked");
-        return nothing();
-    }
-    put_run(place, outcomes, messages, tray, answers, ran)
-}
-
-// Whole records; the place behind them, or 0.
-fn whole(
-    first: u64,
-    outcomes: i32,
-    messages: i32,
-    table: &mut [u8],
-    providers: &[u8],
-    books: &[u8],
-    most: u8,
-    events: &[u8],
-    tray: &mut [u8],
-    answers: &mut [u8],
 ) -> u64 {
-    let mut place = first;
-    let mut from: usize = 0;
-    while from < events.len() {
-        let d = some(
-            place,
-            outcomes,
-            messages,
-            table,
-            providers,
-            books,
-            most,
-            &events[from..],
-            tray,
-            answers,
-        );
-        let bytes = d.bytes;
-        if bytes == 0 {
-            return 0;
-        }
-        if bytes > events.len() - from {
-            return 0;
-        }
-        place = d.place;
-        from += bytes;
+    let mut tray = empty_tray();
+    let mut answers = [0u8; 2048];
+    let ran = batch::run(
+        table,
+        providers,
+        books,
+        most,
+        events,
+        &mut tray,
+        &mut answers,
+    );
+    let count = events.len() / RECORD;
+    if ran.outcome != 0 || ran.events != count as u64 {
+        files::say(b"refused what was checked");
+        return 0;
     }
-    place
+    put_run(
+        place,
+        outcomes,
+        messages,
+        &answers,
+        count,
+        &tray,
+        ran.messages,
+    )
 }
 
 // A part of a record at the end is an event too.
@@ -192,12 +157,12 @@ fn rest(
     books: &[u8],
     most: u8,
     event: &[u8],
-    tray: &mut [u8],
 ) -> u64 {
     if place == 0 || event.len() == 0 {
         return place;
     }
-    let a = engine::step::step(table, providers, books, most, event, tray);
+    let mut tray = [0u8; 1536];
+    let a = engine::step::step(table, providers, books, most, event, &mut tray);
     if !put_line(outcomes, place, a.outcome, a.count) {
         files::fail(b"OUTCOMES");
         return 0;
@@ -219,11 +184,9 @@ fn next(
     providers: &[u8],
     books: &[u8],
     most: u8,
-    events: &mut [u8],
-    tray: &mut [u8],
-    answers: &mut [u8],
 ) -> u64 {
-    let n = io::read_full(input, events);
+    let mut events = [0u8; 24576];
+    let n = io::read_full(input, &mut events);
     let end = n - n % RECORD;
     let behind = whole(
         place,
@@ -234,8 +197,6 @@ fn next(
         books,
         most,
         &events[..end],
-        tray,
-        answers,
     );
     rest(
         behind,
@@ -245,13 +206,12 @@ fn next(
         books,
         most,
         &events[end..n],
-        tray,
     )
 }
 
 // The place behind the last event; 0 where not all were replayed.
 fn reached(place: u64, input: i32) -> u64 {
-    if files::ended(input, EVENTS, b"grew while it was read") {
+    if files::ended(input, EVENTS) {
         place
     } else {
         0
@@ -267,9 +227,6 @@ pub fn each(
     providers: &[u8],
     books: &[u8],
     most: u8,
-    events: &mut [u8],
-    tray: &mut [u8],
-    answers: &mut [u8],
 ) -> u64 {
     let mut place: u64 = 1;
     let mut turns = MOST_EVENTS;
@@ -283,9 +240,6 @@ pub fn each(
             providers,
             books,
             most,
-            events,
-            tray,
-            answers,
         );
         if behind == 0 {
             return 0;

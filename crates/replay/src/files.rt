@@ -111,8 +111,18 @@ pub fn close(fd: i32, name: &[u8]) -> bool {
     closed
 }
 
+// An input is longer than it may be.
+fn say_longer(place: usize) {
+    match place {
+        TABLE => say_of(place, b"the table has more than 4,096 rows"),
+        PROVIDERS => say_of(place, b"the provider list has more than 63 bytes"),
+        BOOKS => say_of(place, b"the books are not 8,712 bytes"),
+        _ => say_of(place, b"grew while it was read"),
+    }
+}
+
 // Whether the input ends here; if not, says why: it cannot be read, or is longer.
-pub fn ended(fd: i32, place: usize, longer: &[u8]) -> bool {
+pub fn ended(fd: i32, place: usize) -> bool {
     let mut path = io::buffer();
     let n = os::arg(place, &mut path);
     let mut more = [0u8; 1];
@@ -121,19 +131,19 @@ pub fn ended(fd: i32, place: usize, longer: &[u8]) -> bool {
         fail(&path[..n]);
     }
     if got > 0 {
-        say_of(place, longer);
+        say_longer(place);
     }
     got == 0
 }
 
 // The whole file, at the start of buf, and how long it is; NONE where it cannot be read or is longer than buf, and says so.
-pub fn load(place: usize, buf: &mut [u8], longer: &[u8]) -> usize {
+pub fn load(place: usize, buf: &mut [u8]) -> usize {
     let fd = open_input(place);
     if fd < 0 {
         return NONE;
     }
     let n = io::read_full(fd, buf);
-    let whole = ended(fd, place, longer);
+    let whole = ended(fd, place);
     libc::close(fd);
     if whole { n } else { NONE }
 }

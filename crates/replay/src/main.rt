@@ -14,6 +14,8 @@ use files::RETRIES;
 use files::TABLE;
 use libc::STDERR_FILENO;
 use scan::Soundness;
+ghost use mathlib.Core.Path.{_≡_};
+ghost use lib.ListN.{length};
 
 const MOST_RETRIES: u8 = 7;
 
@@ -88,15 +90,7 @@ fn finish(count: u64, outcomes: i32, messages: i32, table: &[u8]) {
 }
 
 // The events on what was checked. The table after them is written last, so that it stands for all of them or is not there.
-fn replay(
-    table: &mut [u8],
-    providers: &[u8],
-    books: &[u8],
-    most: u8,
-    events: &mut [u8],
-    tray: &mut [u8],
-    answers: &mut [u8],
-) {
+fn replay(table: &mut [u8], providers: &[u8], books: &[u8], most: u8) {
     let input = files::open_input(EVENTS);
     if input < 0 {
         return;
@@ -109,18 +103,7 @@ fn replay(
     if messages < 0 {
         return;
     }
-    let behind = events::each(
-        input,
-        outcomes,
-        messages,
-        table,
-        providers,
-        books,
-        most,
-        events,
-        tray,
-        answers,
-    );
+    let behind = events::each(input, outcomes, messages, table, providers, books, most);
     if behind == 0 {
         return;
     }
@@ -128,66 +111,44 @@ fn replay(
 }
 
 // Checks what is lent to each event, before any file is written.
-fn checked(
-    table: &mut [u8],
-    providers: &[u8],
-    books: &[u8],
-    most: u8,
-    events: &mut [u8],
-    tray: &mut [u8],
-    answers: &mut [u8],
-) {
+fn checked(table: &mut [u8], providers: &[u8], books: &[u8], most: u8) {
     if !table_fits(table) {
         return;
     }
     if !books_fit(providers, books) {
         return;
     }
-    replay(table, providers, books, most, events, tray, answers);
+    replay(table, providers, books, most);
 }
 
-// As much of each as was loaded, if all were.
-fn loaded(
-    table: &mut [u8],
-    t: usize,
-    providers: &[u8],
-    p: usize,
-    books: &[u8],
-    b: usize,
-    most: u8,
-    events: &mut [u8],
-    tray: &mut [u8],
-    answers: &mut [u8],
-) {
-    if t > table.len() {
-        return;
-    }
-    if p > providers.len() {
-        return;
-    }
-    if b > books.len() {
-        return;
-    }
-    checked(
-        &mut table[..t],
-        &providers[..p],
-        &books[..b],
-        most,
-        events,
-        tray,
-        answers,
-    );
+// 4,096 free rows.
+fn free_rows() -> [u8; 327680]
+    ensures { λ r. ⌜ 327680 ≡ length r ⌝ }
+{
+    [0; 327680]
 }
 
-// Reads what is lent to each event.
-fn run(
-    table: &mut [u8],
-    providers: &mut [u8],
-    books: &mut [u8],
-    events: &mut [u8],
-    tray: &mut [u8],
-    answers: &mut [u8],
-) {
+// Reads what is lent to each event, and goes on if all of it was read.
+fn run(most: u8) {
+    let mut table = free_rows();
+    let mut providers = [0u8; 63];
+    let mut books = [0u8; 8712];
+    let t = files::load(TABLE, &mut table);
+    let p = files::load(PROVIDERS, &mut providers);
+    let b = files::load(BOOKS, &mut books);
+    if t > 327680 {
+        return;
+    }
+    if p > 63 {
+        return;
+    }
+    if b > 8712 {
+        return;
+    }
+    checked(&mut table[..t], &providers[..p], &books[..b], most);
+}
+
+fn main() {
     if os::arg_count() != ARGUMENTS {
         files::say(b"usage: replay TABLE PROVIDERS BOOKS R EVENTS OUTCOMES MESSAGES TABLE-AFTER");
         return;
@@ -197,40 +158,5 @@ fn run(
         files::say_of(RETRIES, b"R is not 0 to 7");
         return;
     }
-    let t = files::load(TABLE, table, b"the table has more than 4,096 rows");
-    let p = files::load(
-        PROVIDERS,
-        providers,
-        b"the provider list has more than 63 bytes",
-    );
-    let b = files::load(BOOKS, books, b"the books are not 8,712 bytes");
-    loaded(
-        table,
-        t,
-        providers,
-        p,
-        books,
-        b,
-        most,
-        events,
-        tray,
-        answers,
-    );
-}
-
-fn main() {
-    let mut table = [0u8; 327680];
-    let mut providers = [0u8; 63];
-    let mut books = [0u8; 8712];
-    let mut events = [0u8; 24576];
-    let mut tray = [0u8; 98304];
-    let mut answers = [0u8; 2048];
-    run(
-        &mut table,
-        &mut providers,
-        &mut books,
-        &mut events,
-        &mut tray,
-        &mut answers,
-    );
+    run(most);
 }

@@ -1,11 +1,17 @@
--- A number of bytes that a slice has is the length of that part of it.
--- Assumes nothing.
 use borrow.Author.Needs.{needs}
 use mathlib.Core.Path.{sym}
 use lib.Seq.{length-take-le}
 use native.Mathlib.Omega.{arith}
 use Rattle.replay.proofs.events.next.Statement.{statement}
 use Rattle.replay.proofs.events.next.Tie as tie
+use Rattle.replay.proofs.events.next.Reads as reads
+use Rattle.replay.proofs.events.next.Lts as lts
+use Rattle.io.proofs.read_full.Reads as read-full-reads
+use Rattle.replay.proofs.events.rest.Reads as rest-reads
+use Rattle.replay.proofs.events.whole.Reads as whole-reads
+
+slice-aggregate-read-full : tie.Need-slice-aggregate-read-full
+slice-aggregate-read-full c = search needs
 
 read-full-requires : tie.Need-read-full-requires
 read-full-requires c κs = search needs
@@ -13,8 +19,8 @@ read-full-requires c κs = search needs
 sub-end : tie.Need-sub-end
 sub-end c = search needs
 
-slice-reshare-prefix-whole : tie.Need-slice-reshare-prefix-whole
-slice-reshare-prefix-whole c = search needs
+array-share-prefix-events : tie.Need-array-share-prefix-events
+array-share-prefix-events c = search needs
 
 slice-aggregate-whole : tie.Need-slice-aggregate-whole
 slice-aggregate-whole c = sym (length-take-le _ _ (omega arith))
@@ -37,15 +43,6 @@ rest-requires c κs = search needs
 same-length : tie.Need-same-length
 same-length c = search needs
 
-same-length-2 : tie.Need-same-length-2
-same-length-2 c = search needs
-
-same-length-3 : tie.Need-same-length-3
-same-length-3 c = search needs
-
-same-length-4 : tie.Need-same-length-4
-same-length-4 c = search needs
-
 returns : tie.Need-returns
 returns c = search needs
 
@@ -53,9 +50,10 @@ pub next-spec : {M : Type 1} → statement M
 next-spec =
     tie.close
     (tie.spec
+    slice-aggregate-read-full
     read-full-requires
     sub-end
-    slice-reshare-prefix-whole
+    array-share-prefix-events
     slice-aggregate-whole
     whole-requires
     sub-rest
@@ -63,7 +61,4 @@ next-spec =
     part-rest-end
     rest-requires
     same-length
-    same-length-2
-    same-length-3
-    same-length-4
     returns)
