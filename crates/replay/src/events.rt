@@ -2,6 +2,9 @@
 // says that a file could not be read or written.
 use crate::files;
 use crate::files::EVENTS;
+use crate::files::MESSAGES;
+use crate::files::OUTCOMES;
+use batch::Ran;
 use libc::STDERR_FILENO;
 ghost use mathlib.Core.Path.{_≡_};
 ghost use lib.ListN.{length};
@@ -54,14 +57,27 @@ fn wide(b: u8) -> u64 {
     b as u64
 }
 
+// The line of an event; the place behind it, or 0.
+fn put_event(fd: i32, place: u64, outcome: u64, count: u64) -> u64 {
+    if place >= MOST_EVENTS {
+        return 0;
+    }
+    if !put_line(fd, place, outcome, count) {
+        files::fail_output(OUTCOMES);
+        return 0;
+    }
+    tell(place);
+    place + 1
+}
+
 // The line of the i-th event of a run: outcome and count stand in two bytes.
-fn put_answer(fd: i32, place: u64, answers: &[u8], i: usize) -> bool {
+fn put_answer(fd: i32, place: u64, answers: &[u8], i: usize) -> u64 {
     if i >= answers.len() / 2 {
-        return false;
+        return 0;
     }
     let outcome = wide(answers[2 * i]);
     let count = wide(answers[2 * i + 1]);
-    put_line(fd, place, outcome, count)
+    put_event(fd, place, outcome, count)
 }
 
 // The lines of a run; the place behind its last event, or 0.
@@ -69,36 +85,35 @@ fn put_answers(fd: i32, first: u64, answers: &[u8], count: usize) -> u64 {
     let mut place = first;
     let mut i: usize = 0;
     while i < count {
-        if place >= MOST_EVENTS {
+        place = put_answer(fd, place, answers, i);
+        if place == 0 {
             return 0;
         }
-        if !put_answer(fd, place, answers, i) {
-            files::fail(b"OUTCOMES");
-            return 0;
-        }
-        tell(place);
-        place += 1;
         i += 1;
     }
     place
 }
 
-// What a run has left: the lines of its events, and its messages. The place behind the last, or 0.
+// What a run of `count` events has left: their lines, and their messages. The place behind the last, or 0.
 fn put_run(
     place: u64,
     outcomes: i32,
     messages: i32,
-    answers: &[u8],
+    ran: Ran,
     count: usize,
+    answers: &[u8],
     tray: &[u8],
-    told: u64,
 ) -> u64 {
+    if ran.outcome != 0 || ran.events != count as u64 {
+        files::say(b"refused what was checked");
+        return 0;
+    }
     let behind = put_answers(outcomes, place, answers, count);
     if behind == 0 {
         return 0;
     }
-    if !put_messages(messages, tray, told) {
-        files::fail(b"MESSAGES");
+    if !put_messages(messages, tray, ran.messages) {
+        files::fail_output(MESSAGES);
         return 0;
     }
     behind
@@ -133,19 +148,7 @@ fn whole(
         &mut answers,
     );
     let count = events.len() / RECORD;
-    if ran.outcome != 0 || ran.events != count as u64 {
-        files::say(b"refused what was checked");
-        return 0;
-    }
-    put_run(
-        place,
-        outcomes,
-        messages,
-        &answers,
-        count,
-        &tray,
-        ran.messages,
-    )
+    put_run(place, outcomes, messages, ran, count, &answers, &tray)
 }
 
 // A part of a record at the end is an event too.
@@ -163,15 +166,7 @@ fn rest(
     }
     let mut tray = [0u8; 1536];
     let a = engine::step::step(table, providers, books, most, event, &mut tray);
-    if !put_line(outcomes, place, a.outcome, a.count) {
-        files::fail(b"OUTCOMES");
-        return 0;
-    }
-    tell(place);
-    if place >= MOST_EVENTS {
-        return 0;
-    }
-    place + 1
+    put_event(outcomes, place, a.outcome, a.count)
 }
 
 // The next events of the input; the place behind them, which is the same where the input ended, or 0.

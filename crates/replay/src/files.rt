@@ -29,27 +29,61 @@ const PATH: usize = 4096;
 // The longest name that '.part' fits behind.
 const MOST_NAME: usize = 4090;
 
-pub fn say(text: &[u8]) {
-    io::write_all(STDERR_FILENO, b"replay: ");
+fn line(text: &[u8]) {
     io::write_all(STDERR_FILENO, text);
     io::write_all(STDERR_FILENO, b"\n");
 }
 
-// The same of what an argument names.
-pub fn say_of(place: usize, text: &[u8]) {
+pub fn say(text: &[u8]) {
+    io::write_all(STDERR_FILENO, b"replay: ");
+    line(text);
+}
+
+fn name(place: usize) {
     let mut name = io::buffer();
     let n = os::arg(place, &mut name);
     io::write_all(STDERR_FILENO, b"replay: ");
     io::write_all(STDERR_FILENO, &name[..n]);
     io::write_all(STDERR_FILENO, b": ");
-    io::write_all(STDERR_FILENO, text);
-    io::write_all(STDERR_FILENO, b"\n");
+}
+
+// The same of what an argument names.
+pub fn say_of(place: usize, text: &[u8]) {
+    name(place);
+    line(text);
+}
+
+// An input is longer than it may be, and the books also shorter.
+pub fn say_length(place: usize) {
+    match place {
+        TABLE => say_of(place, b"the table has more than 4,096 rows"),
+        PROVIDERS => say_of(place, b"the provider list has more than 63 bytes"),
+        BOOKS => say_of(place, b"the books are not 8,712 bytes"),
+        _ => say_of(place, b"grew while it was read"),
+    }
+}
+
+pub fn say_unsound(place: usize) {
+    match place {
+        TABLE => say_of(place, b"the table is unsound"),
+        PROVIDERS => say_of(place, b"the provider list is unsound"),
+        _ => say_of(place, b"the books are unsound"),
+    }
 }
 
 // A call has just failed: why.
 pub fn fail(name: &[u8]) {
     io::write_all(STDERR_FILENO, b"replay: ");
     os::fail(name);
+}
+
+// An output could not be written: why.
+pub fn fail_output(place: usize) {
+    if place == OUTCOMES {
+        fail(b"OUTCOMES");
+    } else {
+        fail(b"MESSAGES");
+    }
 }
 
 // Opens what can be read, which a folder cannot; -1 where it cannot be had, and says why.
@@ -67,16 +101,6 @@ fn open_to_read(path: &[u8]) -> i32 {
     fd
 }
 
-pub fn open_input(place: usize) -> i32 {
-    let mut path = io::buffer();
-    let n = os::arg(place, &mut path);
-    if os::errno() != 0 {
-        fail(b"argument");
-        return -1;
-    }
-    open_to_read(&path[..n])
-}
-
 fn is_dash(path: &[u8]) -> bool {
     if path.len() != 1 {
         return false;
@@ -85,40 +109,39 @@ fn is_dash(path: &[u8]) -> bool {
 }
 
 // Opens a file to be written anew; '-' is standard output.
-pub fn open_output(place: usize) -> i32 {
+fn open_to_write(path: &[u8]) -> i32 {
+    if is_dash(path) {
+        return STDOUT_FILENO;
+    }
+    let fd = os::open_overwrite(path);
+    if fd < 0 {
+        fail(path);
+    }
+    fd
+}
+
+// Opens what an argument names, an input or an output by its place; less than 0 where it cannot be had, and says why.
+pub fn open(place: usize) -> i32 {
     let mut path = io::buffer();
     let n = os::arg(place, &mut path);
     if os::errno() != 0 {
         fail(b"argument");
         return -1;
     }
-    if is_dash(&path[..n]) {
-        return STDOUT_FILENO;
+    if place < OUTCOMES {
+        open_to_read(&path[..n])
+    } else {
+        open_to_write(&path[..n])
     }
-    let fd = os::open_overwrite(&path[..n]);
-    if fd < 0 {
-        fail(&path[..n]);
-    }
-    fd
 }
 
-// Closes a file that was written; if that fails, says why.
-pub fn close(fd: i32, name: &[u8]) -> bool {
+// Closes an output; if that fails, says why.
+pub fn close(fd: i32, place: usize) -> bool {
     let closed = libc::close(fd) == 0;
     if !closed {
-        fail(name);
+        fail_output(place);
     }
     closed
-}
-
-// An input is longer than it may be.
-fn say_longer(place: usize) {
-    match place {
-        TABLE => say_of(place, b"the table has more than 4,096 rows"),
-        PROVIDERS => say_of(place, b"the provider list has more than 63 bytes"),
-        BOOKS => say_of(place, b"the books are not 8,712 bytes"),
-        _ => say_of(place, b"grew while it was read"),
-    }
 }
 
 // Whether the input ends here; if not, says why: it cannot be read, or is longer.
@@ -131,14 +154,14 @@ pub fn ended(fd: i32, place: usize) -> bool {
         fail(&path[..n]);
     }
     if got > 0 {
-        say_longer(place);
+        say_length(place);
     }
     got == 0
 }
 
 // The whole file, at the start of buf, and how long it is; NONE where it cannot be read or is longer than buf, and says so.
 pub fn load(place: usize, buf: &mut [u8]) -> usize {
-    let fd = open_input(place);
+    let fd = open(place);
     if fd < 0 {
         return NONE;
     }
@@ -148,23 +171,19 @@ pub fn load(place: usize, buf: &mut [u8]) -> usize {
     if whole { n } else { NONE }
 }
 
-fn put(path: &mut [u8], at: usize, byte: u8) {
-    if at < path.len() {
-        path[at] = byte;
+// '.part' behind the first n bytes, where it fits.
+fn put_part(path: &mut [u8], n: usize) {
+    if path.len() < PATH {
+        return;
     }
-}
-
-// '.part' behind the first n bytes; how long that is, or 0 where there is no room.
-fn beside(path: &mut [u8], n: usize) -> usize {
     if n > MOST_NAME {
-        return 0;
+        return;
     }
-    put(path, n, b'.');
-    put(path, n + 1, b'p');
-    put(path, n + 2, b'a');
-    put(path, n + 3, b'r');
-    put(path, n + 4, b't');
-    n + 5
+    path[n] = b'.';
+    path[n + 1] = b'p';
+    path[n + 2] = b'a';
+    path[n + 3] = b'r';
+    path[n + 4] = b't';
 }
 
 // Writes all of buf to a file of its own and gives it the name; on any failure that file is removed.
@@ -188,15 +207,11 @@ fn write_whole(part: &[u8], path: &[u8], buf: &[u8]) -> bool {
 pub fn save(place: usize, buf: &[u8]) -> bool {
     let mut path = io::buffer();
     let n = os::arg(place, &mut path);
-    let mut part = io::buffer();
-    os::arg(place, &mut part);
-    let m = beside(&mut part, n);
-    if m == 0 {
+    if n > MOST_NAME {
         say_of(place, b"too long a name");
         return false;
     }
-    if m > PATH {
-        return false;
-    }
-    write_whole(&part[..m], &path[..n], buf)
+    put_part(&mut path, n);
+    let part: &[u8] = &path;
+    write_whole(&part[..n + 5], &part[..n], buf)
 }

@@ -51,7 +51,7 @@ fn table_fits(table: &[u8]) -> bool {
     match verdict {
         Soundness::Sound { used } => true,
         Soundness::Unsound => {
-            files::say_of(TABLE, b"the table is unsound");
+            files::say_unsound(TABLE);
             false
         }
     }
@@ -61,26 +61,26 @@ fn table_fits(table: &[u8]) -> bool {
 fn books_fit(providers: &[u8], books: &[u8]) -> bool {
     let l = providers::marks_of_bytes(providers);
     if !l.sound {
-        files::say_of(PROVIDERS, b"the provider list is unsound");
+        files::say_unsound(PROVIDERS);
         return false;
     }
     if books.len() != BOOK_BYTES {
-        files::say_of(BOOKS, b"the books are not 8,712 bytes");
+        files::say_length(BOOKS);
         return false;
     }
     let kept = audit::sound(l.marks, books);
     if !kept {
-        files::say_of(BOOKS, b"the books are unsound");
+        files::say_unsound(BOOKS);
     }
     kept
 }
 
 // Outcomes and messages stand; the table after them, and a last line that says so.
 fn finish(count: u64, outcomes: i32, messages: i32, table: &[u8]) {
-    if !files::close(outcomes, b"OUTCOMES") {
+    if !files::close(outcomes, OUTCOMES) {
         return;
     }
-    if !files::close(messages, b"MESSAGES") {
+    if !files::close(messages, MESSAGES) {
         return;
     }
     if files::save(AFTER, table) {
@@ -91,15 +91,15 @@ fn finish(count: u64, outcomes: i32, messages: i32, table: &[u8]) {
 
 // The events on what was checked. The table after them is written last, so that it stands for all of them or is not there.
 fn replay(table: &mut [u8], providers: &[u8], books: &[u8], most: u8) {
-    let input = files::open_input(EVENTS);
+    let input = files::open(EVENTS);
     if input < 0 {
         return;
     }
-    let outcomes = files::open_output(OUTCOMES);
+    let outcomes = files::open(OUTCOMES);
     if outcomes < 0 {
         return;
     }
-    let messages = files::open_output(MESSAGES);
+    let messages = files::open(MESSAGES);
     if messages < 0 {
         return;
     }

@@ -16,21 +16,6 @@ slice-aggregate-arg c = search needs
 arg-requires : tie.Need-arg-requires
 arg-requires c κs = search needs
 
-buffer-requires-2 : tie.Need-buffer-requires-2
-buffer-requires-2 c κs = search needs
-
-slice-aggregate-arg-2 : tie.Need-slice-aggregate-arg-2
-slice-aggregate-arg-2 c = search needs
-
-arg-requires-2 : tie.Need-arg-requires-2
-arg-requires-2 c κs = search needs
-
-slice-aggregate-beside : tie.Need-slice-aggregate-beside
-slice-aggregate-beside c = search needs
-
-beside-requires : tie.Need-beside-requires
-beside-requires c κs = search needs
-
 slice-aggregate-say-of : tie.Need-slice-aggregate-say-of
 slice-aggregate-say-of c = search needs
 
@@ -40,26 +25,29 @@ say-of-requires c κs = search needs
 returns : tie.Need-returns
 returns c = search needs
 
-returns-2 : tie.Need-returns-2
-returns-2 c = search needs
+slice-aggregate-put-part : tie.Need-slice-aggregate-put-part
+slice-aggregate-put-part c = search needs
 
-array-share-prefix-part : tie.Need-array-share-prefix-part
-array-share-prefix-part c = search needs
+put-part-requires : tie.Need-put-part-requires
+put-part-requires c κs = search needs
+
+slice-aggregate-part : tie.Need-slice-aggregate-part
+slice-aggregate-part c = search needs
+
+add-write-whole : tie.Need-add-write-whole
+add-write-whole c = search needs
 
 slice-aggregate-write-whole : tie.Need-slice-aggregate-write-whole
 slice-aggregate-write-whole c = sym (length-take-le _ _ (omega arith))
 
-array-share-prefix-path : tie.Need-array-share-prefix-path
-array-share-prefix-path c = search needs
-
 slice-aggregate-write-whole-2 : tie.Need-slice-aggregate-write-whole-2
-slice-aggregate-write-whole-2 c = search needs
+slice-aggregate-write-whole-2 c = sym (length-take-le _ _ (omega arith))
 
 write-whole-requires : tie.Need-write-whole-requires
 write-whole-requires c κs = search needs
 
-returns-3 : tie.Need-returns-3
-returns-3 c = search needs
+returns-2 : tie.Need-returns-2
+returns-2 c = search needs
 
 pub save-spec : {M : Type 1} → statement M
 save-spec =
@@ -68,18 +56,14 @@ save-spec =
     buffer-requires
     slice-aggregate-arg
     arg-requires
-    buffer-requires-2
-    slice-aggregate-arg-2
-    arg-requires-2
-    slice-aggregate-beside
-    beside-requires
     slice-aggregate-say-of
     say-of-requires
     returns
-    returns-2
-    array-share-prefix-part
+    slice-aggregate-put-part
+    put-part-requires
+    slice-aggregate-part
+    add-write-whole
     slice-aggregate-write-whole
-    array-share-prefix-path
     slice-aggregate-write-whole-2
     write-whole-requires
-    returns-3)
+    returns-2)
