@@ -4,6 +4,7 @@ use crate::files;
 use crate::files::EVENTS;
 use crate::files::MESSAGES;
 use crate::files::OUTCOMES;
+use crate::files::Streams;
 use batch::Ran;
 use libc::STDERR_FILENO;
 ghost use mathlib.Core.Path.{_≡_};
@@ -95,24 +96,16 @@ fn put_answers(fd: i32, first: u64, answers: &[u8], count: usize) -> u64 {
 }
 
 // What a run of `count` events has left: their lines, and their messages. The place behind the last, or 0.
-fn put_run(
-    place: u64,
-    outcomes: i32,
-    messages: i32,
-    ran: Ran,
-    count: usize,
-    answers: &[u8],
-    tray: &[u8],
-) -> u64 {
-    if ran.outcome != 0 || ran.events != count as u64 {
+fn put_run(place: u64, s: Streams, ran: Ran, count: usize, answers: &[u8], tray: &[u8]) -> u64 {
+    if ran.events != count as u64 {
         files::say(b"refused what was checked");
         return 0;
     }
-    let behind = put_answers(outcomes, place, answers, count);
+    let behind = put_answers(s.outcomes, place, answers, count);
     if behind == 0 {
         return 0;
     }
-    if !put_messages(messages, tray, ran.messages) {
+    if !put_messages(s.messages, tray, ran.messages) {
         files::fail_output(MESSAGES);
         return 0;
     }
@@ -128,8 +121,7 @@ fn empty_tray() -> [u8; 1572864]
 // Whole records; the place behind them, or 0.
 fn whole(
     place: u64,
-    outcomes: i32,
-    messages: i32,
+    s: Streams,
     table: &mut [u8],
     providers: &[u8],
     books: &[u8],
@@ -148,7 +140,7 @@ fn whole(
         &mut answers,
     );
     let count = events.len() / RECORD;
-    put_run(place, outcomes, messages, ran, count, &answers, &tray)
+    put_run(place, s, ran, count, &answers, &tray)
 }
 
 // A part of a record at the end is an event too.
@@ -170,32 +162,14 @@ fn rest(
 }
 
 // The next events of the input; the place behind them, which is the same where the input ended, or 0.
-fn next(
-    place: u64,
-    input: i32,
-    outcomes: i32,
-    messages: i32,
-    table: &mut [u8],
-    providers: &[u8],
-    books: &[u8],
-    most: u8,
-) -> u64 {
+fn next(place: u64, s: Streams, table: &mut [u8], providers: &[u8], books: &[u8], most: u8) -> u64 {
     let mut events = [0u8; 24576];
-    let n = io::read_full(input, &mut events);
+    let n = io::read_full(s.input, &mut events);
     let end = n - n % RECORD;
-    let behind = whole(
-        place,
-        outcomes,
-        messages,
-        table,
-        providers,
-        books,
-        most,
-        &events[..end],
-    );
+    let behind = whole(place, s, table, providers, books, most, &events[..end]);
     rest(
         behind,
-        outcomes,
+        s.outcomes,
         table,
         providers,
         books,
@@ -213,34 +187,17 @@ fn reached(place: u64, input: i32) -> u64 {
     }
 }
 
-// All events, up to the input's end.
-pub fn each(
-    input: i32,
-    outcomes: i32,
-    messages: i32,
-    table: &mut [u8],
-    providers: &[u8],
-    books: &[u8],
-    most: u8,
-) -> u64 {
+// All events, up to the input's end; the place behind the last, counted from 1, or 0.
+pub fn each(s: Streams, table: &mut [u8], providers: &[u8], books: &[u8], most: u8) -> u64 {
     let mut place: u64 = 1;
     let mut turns = MOST_EVENTS;
     while turns > 0 {
-        let behind = next(
-            place,
-            input,
-            outcomes,
-            messages,
-            table,
-            providers,
-            books,
-            most,
-        );
+        let behind = next(place, s, table, providers, books, most);
         if behind == 0 {
             return 0;
         }
         if behind == place {
-            return reached(place, input);
+            return reached(place, s.input);
         }
         place = behind;
         turns -= 1;

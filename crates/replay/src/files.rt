@@ -135,6 +135,31 @@ pub fn open(place: usize) -> i32 {
     }
 }
 
+// The events, and what is written while they are replayed.
+pub struct Streams {
+    pub input: i32,
+    pub outcomes: i32,
+    pub messages: i32,
+}
+
+// Opens them in this order, up to the first that cannot be had; `messages` is less than 0 where one is missing.
+pub fn open_streams() -> Streams {
+    let input = open(EVENTS);
+    let mut outcomes = -1;
+    let mut messages = -1;
+    if input >= 0 {
+        outcomes = open(OUTCOMES);
+    }
+    if outcomes >= 0 {
+        messages = open(MESSAGES);
+    }
+    Streams {
+        input,
+        outcomes,
+        messages,
+    }
+}
+
 // Closes an output; if that fails, says why.
 pub fn close(fd: i32, place: usize) -> bool {
     let closed = libc::close(fd) == 0;

@@ -6,11 +6,11 @@ mod files;
 use files::AFTER;
 use files::ARGUMENTS;
 use files::BOOKS;
-use files::EVENTS;
 use files::MESSAGES;
 use files::OUTCOMES;
 use files::PROVIDERS;
 use files::RETRIES;
+use files::Streams;
 use files::TABLE;
 use libc::STDERR_FILENO;
 use scan::Soundness;
@@ -75,50 +75,38 @@ fn books_fit(providers: &[u8], books: &[u8]) -> bool {
     kept
 }
 
-// Outcomes and messages stand; the table after them, and a last line that says so.
-fn finish(count: u64, outcomes: i32, messages: i32, table: &[u8]) {
-    if !files::close(outcomes, OUTCOMES) {
+// Outcomes and messages stand, up to the place behind the last event; the table after them, and a last line that says so.
+fn finish(behind: u64, s: Streams, table: &[u8]) {
+    if behind == 0 {
         return;
     }
-    if !files::close(messages, MESSAGES) {
+    if !files::close(s.outcomes, OUTCOMES) {
+        return;
+    }
+    if !files::close(s.messages, MESSAGES) {
         return;
     }
     if files::save(AFTER, table) {
-        io::print_decimal(STDERR_FILENO, count);
+        io::print_decimal(STDERR_FILENO, behind - 1);
         io::write_all(STDERR_FILENO, b" events replayed\n");
     }
 }
 
-// The events on what was checked. The table after them is written last, so that it stands for all of them or is not there.
+// Checks what is lent to each event before any file is written, and replays. The table after the events is written last, so that it
+// stands for all of them or is not there.
 fn replay(table: &mut [u8], providers: &[u8], books: &[u8], most: u8) {
-    let input = files::open(EVENTS);
-    if input < 0 {
-        return;
-    }
-    let outcomes = files::open(OUTCOMES);
-    if outcomes < 0 {
-        return;
-    }
-    let messages = files::open(MESSAGES);
-    if messages < 0 {
-        return;
-    }
-    let behind = events::each(input, outcomes, messages, table, providers, books, most);
-    if behind == 0 {
-        return;
-    }
-    finish(behind - 1, outcomes, messages, table);
-}
-
-// Checks what is lent to each event, before any file is written.
-fn checked(table: &mut [u8], providers: &[u8], books: &[u8], most: u8) {
     if !table_fits(table) {
         return;
     }
     if !books_fit(providers, books) {
         return;
     }
-    replay(table, providers, books, most);
+    let s = files::open_streams();
+    if s.messages < 0 {
+        return;
+    }
+    let behind = events::each(s, table, providers, books, most);
+    finish(behind, s, table);
 }
 
 // 4,096 free rows.
@@ -145,7 +133,7 @@ fn run(most: u8) {
     if b > 8712 {
         return;
     }
-    checked(&mut table[..t], &providers[..p], &books[..b], most);
+    replay(&mut table[..t], &providers[..p], &books[..b], most);
 }
 
 fn main() {

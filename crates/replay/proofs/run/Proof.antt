@@ -40,23 +40,23 @@ returns-3 c = search needs
 array-borrow-prefix-table : tie.Need-array-borrow-prefix-table
 array-borrow-prefix-table c = search needs
 
-slice-aggregate-checked : tie.Need-slice-aggregate-checked
-slice-aggregate-checked c = sym (length-take-le _ _ (omega arith))
+slice-aggregate-replay : tie.Need-slice-aggregate-replay
+slice-aggregate-replay c = sym (length-take-le _ _ (omega arith))
 
 array-share-prefix-providers : tie.Need-array-share-prefix-providers
 array-share-prefix-providers c = search needs
 
-slice-aggregate-checked-2 : tie.Need-slice-aggregate-checked-2
-slice-aggregate-checked-2 c = sym (length-take-le _ _ (omega arith))
+slice-aggregate-replay-2 : tie.Need-slice-aggregate-replay-2
+slice-aggregate-replay-2 c = sym (length-take-le _ _ (omega arith))
 
 array-share-prefix-books : tie.Need-array-share-prefix-books
 array-share-prefix-books c = search needs
 
-slice-aggregate-checked-3 : tie.Need-slice-aggregate-checked-3
-slice-aggregate-checked-3 c = sym (length-take-le _ _ (omega arith))
+slice-aggregate-replay-3 : tie.Need-slice-aggregate-replay-3
+slice-aggregate-replay-3 c = sym (length-take-le _ _ (omega arith))
 
-checked-requires : tie.Need-checked-requires
-checked-requires c κs = search needs
+replay-requires : tie.Need-replay-requires
+replay-requires c κs = search needs
 
 returns-4 : tie.Need-returns-4
 returns-4 c = search needs
@@ -76,10 +76,10 @@ run-spec =
     returns-2
     returns-3
     array-borrow-prefix-table
-    slice-aggregate-checked
+    slice-aggregate-replay
     array-share-prefix-providers
-    slice-aggregate-checked-2
+    slice-aggregate-replay-2
     array-share-prefix-books
-    slice-aggregate-checked-3
-    checked-requires
+    slice-aggregate-replay-3
+    replay-requires
     returns-4)

@@ -1,19 +1,17 @@
+-- The measure is how many turns are left; the table keeps its length.
+-- Assumes nothing.
 use borrow.Author.Needs.{needs}
 use mathlib.Core.Path.{_≡_, refl, _∙_}
 use lib.ListN.{length}
 use native.Mathlib.Omega.{arith}
 use Rattle.replay.proofs.events.each.Statement.{statement}
 use Rattle.replay.proofs.events.each.Tie as tie
-use Rattle.replay.proofs.events.each.Reads as reads
-use Rattle.replay.proofs.events.each.Lts as lts
-use Rattle.replay.proofs.events.next.Reads as next-reads
-use Rattle.replay.proofs.events.reached.Reads as reached-reads
 
 abbrev Inv-loop : tie.InvT-loop
-Inv-loop input outcomes messages table₀ providers books most place₀ turns₀ table place turns = length table ≡ length table₀
+Inv-loop s table₀ providers books most place₀ turns₀ table place turns = length table ≡ length table₀
 
 abbrev μ-loop : tie.MeasureT-loop
-μ-loop input outcomes messages table₀ providers books most place₀ turns₀ table place turns = turns
+μ-loop s table₀ providers books most place₀ turns₀ table place turns = turns
 
 loop-holds : tie.Need-loop-holds Inv-loop μ-loop
 loop-holds c = refl
@@ -35,8 +33,8 @@ reached-requires c κs = tt
 
 same-length-2 : tie.Need-same-length-2 Inv-loop μ-loop
 same-length-2 c =
-    let k = c .before .before .before .before .before .next .kept in
-    let i = c .before .before .before .before .before .before .before .before .loop .inv in
+    let k = c .before .before .before .before .before .before .next .kept in
+    let i = c .before .before .before .before .before .before .before .before .before .loop .inv in
     search needs
 
 returns-2 : tie.Need-returns-2 Inv-loop μ-loop

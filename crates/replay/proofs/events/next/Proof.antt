@@ -1,14 +1,11 @@
+-- A number of bytes that a slice has is the length of that part of it.
+-- Assumes nothing.
 use borrow.Author.Needs.{needs}
 use mathlib.Core.Path.{sym}
 use lib.Seq.{length-take-le}
 use native.Mathlib.Omega.{arith}
 use Rattle.replay.proofs.events.next.Statement.{statement}
 use Rattle.replay.proofs.events.next.Tie as tie
-use Rattle.replay.proofs.events.next.Reads as reads
-use Rattle.replay.proofs.events.next.Lts as lts
-use Rattle.io.proofs.read_full.Reads as read-full-reads
-use Rattle.replay.proofs.events.rest.Reads as rest-reads
-use Rattle.replay.proofs.events.whole.Reads as whole-reads
 
 slice-aggregate-read-full : tie.Need-slice-aggregate-read-full
 slice-aggregate-read-full c = search needs
