@@ -112,6 +112,7 @@ fn put_run(place: u64, s: Streams, ran: Ran, count: usize, answers: &[u8], tray:
     behind
 }
 
+// So large that one run takes all records that were read: a run stops where fewer than 64 places are left.
 fn empty_tray() -> [u8; 1572864]
     ensures { λ r. ⌜ 1572864 ≡ length r ⌝ }
 {
@@ -143,7 +144,7 @@ fn whole(
     put_run(place, s, ran, count, &answers, &tray)
 }
 
-// A part of a record at the end is an event too.
+// A part of a record at the end is an event too, and finds the 64 places that a step asks for.
 fn rest(
     place: u64,
     outcomes: i32,
