@@ -25,8 +25,8 @@ use Rattle.model.specs.declared.Message.{Message}
 use Rattle.model.specs.declared.Outcome.{Outcome}
 use Rattle.model.specs.declared.Reading.{Reading}
 use Rattle.model.specs.declared.Reading.the-variants.{Record, Malformed}
-use Rattle.record.specs.Layout.{readEvent}
-use Rattle.record.proofs.Inverse.{bytes-are, fields-are}
+use Rattle.packing.specs.Layout.{readEvent}
+use Rattle.packing.proofs.Inverse.{bytes-are, fields-are}
 use Rattle.record.proofs.Theorems.{read-is-formed}
 use Rattle.providers.specs.Providers.{listed, entryOf}
 use Rattle.providers.specs.declared.Listed.{Listed}

@@ -20,7 +20,7 @@ use Rattle.model.specs.declared.Outcome.{Outcome}
 use Rattle.model.specs.declared.Outcome.the-variants as outcome
 use Rattle.model.specs.declared.Reading.{Reading}
 use Rattle.model.specs.declared.Reading.the-variants.{Record, Malformed}
-use Rattle.record.specs.Layout.{readEvent}
+use Rattle.packing.specs.Layout.{readEvent}
 use Rattle.providers.specs.declared.Listed.{Listed}
 use Rattle.rows.specs.Table.{decode, encode}
 use Rattle.scan.specs.Sound.{rowsIn, itself, soundnessOf, SoundTable}

@@ -18,7 +18,7 @@ use Rattle.model.specs.declared.Reading.{Reading}
 use Rattle.model.specs.declared.Reading.the-variants.{Record, Malformed}
 use Rattle.model.specs.declared.Outcome.{Outcome}
 use Rattle.model.specs.declared.Outcome.the-variants as outcome
-use Rattle.record.specs.Layout.{readEvent}
+use Rattle.packing.specs.Layout.{readEvent}
 use Rattle.record.proofs.Theorems.{read-is-formed}
 use Rattle.providers.specs.declared.Listed.{Listed}
 use Rattle.books.specs.Packed.{decodeBooks, soundBytes}

@@ -11,7 +11,7 @@ use Rattle.octets.specs.Fields.{cut}
 use Rattle.model.specs.Basics.{All}
 use Rattle.model.specs.Outcomes.{numberOf}
 use Rattle.model.specs.Exchange.{Exchangeable, May, reorder, mailOf}
-use Rattle.record.specs.Layout.{widths, eventOf, readEvent}
+use Rattle.packing.specs.Layout.{widths, eventOf, readEvent}
 use Rattle.providers.specs.Providers.{listed, entryOf}
 use Rattle.books.specs.Packed.{soundBytes}
 use Rattle.scan.specs.Sound.{rowsIn, itself, soundnessOf}

@@ -5,7 +5,7 @@ use mathlib.Core.Bool.{Bool, true, false, cond, _&&_}
 use mathlib.Core.List.{List, map}
 use Rattle.model.specs.Given.{Result, refuse}
 use Rattle.model.specs.Step.{Setting, step}
-use Rattle.record.specs.Layout.{readEvent}
+use Rattle.packing.specs.Layout.{readEvent}
 use Rattle.providers.specs.Providers.{listed, entryOf}
 use Rattle.providers.specs.declared.Listed.{Listed}
 use Rattle.books.specs.Packed.{decodeBooks, soundBytes}

@@ -15,8 +15,8 @@ use Rattle.model.specs.declared.Reading.{Reading}
 use Rattle.model.specs.declared.Reading.the-variants.{Record, Malformed}
 use Rattle.model.specs.Numbers.{tenDigits}
 use Rattle.model.specs.Record.{named, kindFits, fitsBits, wellFormed}
-use Rattle.record.specs.Layout.{tenOf, eventOf, Written}
-use Rattle.record.proofs.Inverse.{bits-at, said-done}
+use Rattle.packing.specs.Layout.{tenOf, eventOf, Written}
+use Rattle.packing.proofs.Inverse.{bits-at, said-done}
 use Rattle.record.proofs.Codec.{refused-fields}
 use Rattle.fields.specs.Calls.{handedTo, handedNumber, Handed, Narrow}
 

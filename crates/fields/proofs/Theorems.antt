@@ -6,7 +6,7 @@ use Prim.Native.Nat.{ℕ, _<_}
 use lib.ListN.{length, getD}
 use Rattle.model.specs.declared.Event.{Event}
 use Rattle.model.specs.declared.Reading.{Reading}
-use Rattle.record.specs.Layout.{tenOf, eventOf, readEvent, Written}
+use Rattle.packing.specs.Layout.{tenOf, eventOf, readEvent, Written}
 use Rattle.record.proofs.Theorems.{write-then-read, read-then-write}
 use Rattle.fields.specs.Calls.{Handed}
 use Rattle.fields.proofs.Answers.{handed-is, handed-done}

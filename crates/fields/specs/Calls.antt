@@ -9,7 +9,7 @@ use lib.Dec.{eqb}
 use Rattle.model.specs.declared.Event.{Event}
 use Rattle.model.specs.declared.Reading.{Reading}
 use Rattle.model.specs.declared.Reading.the-variants.{Record, Malformed}
-use Rattle.record.specs.Layout.{tenOf, eventOf}
+use Rattle.packing.specs.Layout.{tenOf, eventOf}
 
 -- the event with these fields, whatever numbers they are [E1]
 abbrev pub event : ℕ → ℕ → ℕ → ℕ → ℕ → ℕ → ℕ → ℕ → ℕ → ℕ → Event

@@ -2,7 +2,7 @@
 ghost use mathlib.Core.Path.{_≡_};
 ghost use lib.ListN.{length};
 ghost use Rattle.model.specs.Record.{fitsBits};
-ghost use Rattle.record.specs.Layout.{tenOf, readEvent, Written};
+ghost use Rattle.packing.specs.Layout.{tenOf, readEvent, Written};
 ghost use Rattle.fields.specs.Calls.{event, Handed, Narrow};
 use model::Event;
 use model::Lrn;

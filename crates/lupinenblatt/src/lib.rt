@@ -1,5 +1,5 @@
 // The calls for C: on bytes and numbers, each with a promise for every input. include/lupinenblatt.h tells them to C. [F4]
-ghost use Rattle.record.specs.Layout.{readEvent, Written};
+ghost use Rattle.packing.specs.Layout.{readEvent, Written};
 ghost use Rattle.fields.specs.Calls.{event, Handed};
 
 pub mod run;

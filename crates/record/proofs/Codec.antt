@@ -13,10 +13,10 @@ use Rattle.octets.specs.Fields.{cut}
 use Rattle.model.specs.declared.Event.{Event}
 use Rattle.model.specs.declared.Reading.the-variants.{Record, Malformed}
 use Rattle.model.specs.Record.{wellFormed}
-use Rattle.record.specs.Layout.{widths, bytesOf, readFields, readEvent, Written}
-use Rattle.record.specs.InWords.{eventOfWords, words, Fitted, Packed}
-use Rattle.record.proofs.Spans.{event-in-words, spare-in-words, packed-joined}
-use Rattle.record.proofs.Inverse.{bits-at, formed-bits}
+use Rattle.packing.specs.Layout.{widths, bytesOf, readFields, readEvent, Written}
+use Rattle.packing.specs.InWords.{eventOfWords, words, Fitted, Packed}
+use Rattle.packing.proofs.Spans.{event-in-words, spare-in-words, packed-joined}
+use Rattle.packing.proofs.Inverse.{bits-at, formed-bits}
 
 -- ---- reading
 

@@ -1,4 +1,2 @@
-pub mod Spans
-pub mod Inverse
 pub mod Codec
 pub mod Theorems

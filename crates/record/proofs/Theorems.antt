@@ -13,8 +13,8 @@ use Rattle.octets.specs.Fields.{cut, join, and-r}
 use Rattle.model.specs.declared.Event.{Event}
 use Rattle.model.specs.declared.Reading.the-variants.{Record}
 use Rattle.model.specs.Record.{wellFormed}
-use Rattle.record.specs.Layout.{widths, fieldsOf, bytesOf, readEvent, writable, Written}
-use Rattle.record.proofs.Inverse.{said-done, record-one, read-written, written-read, bytes-are, fields-are}
+use Rattle.packing.specs.Layout.{widths, fieldsOf, bytesOf, readEvent, writable, Written}
+use Rattle.packing.proofs.Inverse.{said-done, record-one, read-written, written-read, bytes-are, fields-are}
 
 -- Reading answers a record only for well-formed fields. [E5]
 pub read-is-formed : (xs : List ℕ) (e : Event) → readEvent xs ≡ Record e → wellFormed e ≡ true

@@ -1,13 +1,9 @@
 // The event record: 24 bytes and its fields, both ways. [E1 to E6]
 ghost use mathlib.Core.Path.{_≡_};
-ghost use Rattle.record.specs.Layout.{readEvent, Written};
+ghost use Rattle.packing.specs.Layout.{readEvent, Written};
 use kinds::well_formed;
 use model::Event;
 use model::Reading;
-use words::pack;
-use words::unpack;
-
-mod words;
 
 // The fields of a record of 24 bytes that is well formed.
 pub fn read(s: &[u8]) -> Reading
@@ -22,7 +18,7 @@ pub fn read(s: &[u8]) -> Reading
     if third % 16384 != 0 {
         return Reading::Malformed;
     }
-    let e = unpack(first, second, third);
+    let e = packing::unpack(first, second, third);
     if well_formed(e) {
         Reading::Record(e)
     } else {
@@ -38,7 +34,7 @@ pub fn write(e: Event, out: &mut [u8]) -> u8
         return 2;
     }
     if well_formed(e) {
-        let w = pack(e);
+        let w = packing::pack(e);
         octets::put_u64(out, 0, w.first);
         octets::put_u64(out, 8, w.second);
         octets::put_u64(out, 16, w.third);

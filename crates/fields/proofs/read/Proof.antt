@@ -1,7 +1,7 @@
 use mathlib.Core.Path.{sym, _∙_}
 use native.Mathlib.Omega.{arith}
 use denote.Ref.{now}
-use Rattle.record.specs.Layout.{readEvent}
+use Rattle.packing.specs.Layout.{readEvent}
 use Rattle.fields.proofs.Answers.{handed-refused, handed-record, handed-malformed}
 use borrow.Author.Needs.{needs}
 use Rattle.fields.proofs.read.Statement.{statement}

@@ -1,7 +1,7 @@
 use native.Mathlib.Omega.{arith}
 use lib.ListN.{length-set}
 use denote.Ref.{now}
-use Rattle.record.specs.Layout.{tenOf}
+use Rattle.packing.specs.Layout.{tenOf}
 use Rattle.fields.proofs.Answers.{set-all}
 use borrow.Author.Needs.{needs}
 use Rattle.fields.proofs.store.Statement.{statement}

@@ -3,7 +3,7 @@ use mathlib.Core.Bool.{Bool, true, false, cond}
 use native.Mathlib.Omega.{arith}
 use denote.Ref.{now}
 use Rattle.model.specs.declared.Reading.the-variants.{Record, Malformed}
-use Rattle.record.specs.Layout.{readEvent}
+use Rattle.packing.specs.Layout.{readEvent}
 use Rattle.record.proofs.Codec.{read-length, read-spare, read-fields}
 use borrow.Author.Needs.{needs}
 use Rattle.record.proofs.read.Statement.{statement}

@@ -8,7 +8,7 @@ use Rattle.octets.specs.Octets.{be, digits}
 use Rattle.model.specs.declared.Event.{Event}
 use Rattle.model.specs.declared.Reading.the-variants.{Record, Malformed}
 use Rattle.model.specs.Record.{kindFits, fitsBits, wellFormed}
-use Rattle.record.specs.Layout.{eventOf, bytesOf, readFields, readEvent}
+use Rattle.packing.specs.Layout.{eventOf, bytesOf, readFields, readEvent}
 
 -- new side creates: sender 2, other 1, TN 3035550100, LRN 3035550000, due 100, time 10
 abbrev created : Event

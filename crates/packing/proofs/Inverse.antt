@@ -18,7 +18,7 @@ use Rattle.model.specs.declared.Reading.{Reading}
 use Rattle.model.specs.declared.Reading.the-variants.{Record, Malformed}
 use Rattle.model.specs.Numbers.{tenDigits}
 use Rattle.model.specs.Record.{named, kindFits, fitsBits, wellFormed}
-use Rattle.record.specs.Layout.{widths, fieldsOf, eventOf, bytesOf, readFields, readEvent}
+use Rattle.packing.specs.Layout.{widths, fieldsOf, eventOf, bytesOf, readFields, readEvent}
 
 -- the model's bits are the layout's widths
 bits-widths : (e : Event) → fitsBits e ≡ fit widths (fieldsOf e)

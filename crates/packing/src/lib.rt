@@ -1,6 +1,6 @@
 // A record's fields in three words of 64 bits; the time runs from the second into the third.
 ghost use mathlib.Core.Path.{_≡_};
-ghost use Rattle.record.specs.InWords.{eventOfWords, Fitted, Packed};
+ghost use Rattle.packing.specs.InWords.{eventOfWords, Fitted, Packed};
 use model::Event;
 use model::Lrn;
 use model::Tn;

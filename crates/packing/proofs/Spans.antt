@@ -8,8 +8,8 @@ use lib.ListN.{getD}
 use lib.Pow.{pow-add, high, field, shr-shr, mod-pow-add}
 use Rattle.octets.specs.Fields.{total, cut, join}
 use Rattle.model.specs.declared.Event.{Event}
-use Rattle.record.specs.Layout.{widths, fieldsOf, eventOf}
-use Rattle.record.specs.InWords.{firstWidths, secondWidths, thirdWidths, whole, eventOfWords, words, Packed}
+use Rattle.packing.specs.Layout.{widths, fieldsOf, eventOf}
+use Rattle.packing.specs.InWords.{firstWidths, secondWidths, thirdWidths, whole, eventOfWords, words, Packed}
 
 -- ---- two lists of widths in a row
 

@@ -7,7 +7,7 @@ use Prim.Native.Nat.{ℕ, _+_, _*_, _/_, _%_, _^_, _<_}
 use lib.ListN.{getD, take, drop}
 use Rattle.octets.specs.Fields.{cut, join}
 use Rattle.model.specs.declared.Event.{Event}
-use Rattle.record.specs.Layout.{eventOf}
+use Rattle.packing.specs.Layout.{eventOf}
 
 -- kind, sender, other, authorization or result, cause, TN
 abbrev pub firstWidths : List ℕ
