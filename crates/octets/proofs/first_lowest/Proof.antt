@@ -8,7 +8,7 @@ use Rattle.octets.proofs.first_lowest.Statement.{statement}
 use Rattle.octets.proofs.first_lowest.Tie as tie
 
 shared-slice-read-wide : tie.Need-shared-slice-read-wide
-shared-slice-read-wide c = search needs
+shared-slice-read-wide c = omega (arith, c .before .before .pre)
 
 wide-requires : tie.Need-wide-requires
 wide-requires c κs = search needs
@@ -17,7 +17,7 @@ add-wide : tie.Need-add-wide
 add-wide c = search needs
 
 shared-slice-read-wide-2 : tie.Need-shared-slice-read-wide-2
-shared-slice-read-wide-2 c = search needs
+shared-slice-read-wide-2 c = omega (arith, c .before .before .before .before .pre)
 
 wide-requires-2 : tie.Need-wide-requires-2
 wide-requires-2 c κs = search needs
@@ -26,7 +26,7 @@ add-wide-2 : tie.Need-add-wide-2
 add-wide-2 c = search needs
 
 shared-slice-read-wide-3 : tie.Need-shared-slice-read-wide-3
-shared-slice-read-wide-3 c = search needs
+shared-slice-read-wide-3 c = omega (arith, c .before .before .before .before .before .before .pre)
 
 wide-requires-3 : tie.Need-wide-requires-3
 wide-requires-3 c κs = search needs
@@ -35,7 +35,7 @@ add-wide-3 : tie.Need-add-wide-3
 add-wide-3 c = search needs
 
 shared-slice-read-wide-4 : tie.Need-shared-slice-read-wide-4
-shared-slice-read-wide-4 c = search needs
+shared-slice-read-wide-4 c = omega (arith, c .before .before .before .before .before .before .before .before .pre)
 
 wide-requires-4 : tie.Need-wide-requires-4
 wide-requires-4 c κs = search needs
@@ -44,7 +44,7 @@ add-wide-4 : tie.Need-add-wide-4
 add-wide-4 c = search needs
 
 shared-slice-read-wide-5 : tie.Need-shared-slice-read-wide-5
-shared-slice-read-wide-5 c = search needs
+shared-slice-read-wide-5 c = omega (arith, c .before .before .before .before .before .before .before .before .before .before .pre)
 
 wide-requires-5 : tie.Need-wide-requires-5
 wide-requires-5 c κs = search needs
@@ -53,7 +53,7 @@ add-wide-5 : tie.Need-add-wide-5
 add-wide-5 c = search needs
 
 shared-slice-read-wide-6 : tie.Need-shared-slice-read-wide-6
-shared-slice-read-wide-6 c = search needs
+shared-slice-read-wide-6 c = omega (arith, c .before .before .before .before .before .before .before .before .before .before .before .before .pre)
 
 wide-requires-6 : tie.Need-wide-requires-6
 wide-requires-6 c κs = search needs
@@ -62,7 +62,7 @@ add-wide-6 : tie.Need-add-wide-6
 add-wide-6 c = search needs
 
 shared-slice-read-wide-7 : tie.Need-shared-slice-read-wide-7
-shared-slice-read-wide-7 c = search needs
+shared-slice-read-wide-7 c = omega (arith, c .before .before .before .before .before .before .before .before .before .before .before .before .before .before .pre)
 
 wide-requires-7 : tie.Need-wide-requires-7
 wide-requires-7 c κs = search needs
@@ -71,52 +71,52 @@ add-wide-7 : tie.Need-add-wide-7
 add-wide-7 c = search needs
 
 shared-slice-read-wide-8 : tie.Need-shared-slice-read-wide-8
-shared-slice-read-wide-8 c = search needs
+shared-slice-read-wide-8 c = omega (arith, c .before .before .before .before .before .before .before .before .before .before .before .before .before .before .before .before .pre)
 
 wide-requires-8 : tie.Need-wide-requires-8
 wide-requires-8 c κs = search needs
 
 mul-result : tie.Need-mul-result
-mul-result c = search needs
+mul-result c = omega (arith, c .wide8 .ensures .1)
 
 mul-result-2 : tie.Need-mul-result-2
-mul-result-2 c = search needs
+mul-result-2 c = omega (arith, c .before .before .wide7 .ensures .1)
 
 add-result : tie.Need-add-result
-add-result c = search needs
+add-result c = omega (arith, c .wide8 .ensures .1, c .before .before .wide7 .ensures .1)
 
 mul-result-3 : tie.Need-mul-result-3
-mul-result-3 c = search needs
+mul-result-3 c = omega (arith, c .before .before .before .before .wide6 .ensures .1)
 
 add-result-2 : tie.Need-add-result-2
-add-result-2 c = search needs
+add-result-2 c = omega (arith, c .wide8 .ensures .1, c .before .before .wide7 .ensures .1, c .before .before .before .before .wide6 .ensures .1)
 
 mul-result-4 : tie.Need-mul-result-4
-mul-result-4 c = search needs
+mul-result-4 c = omega (arith, c .before .before .before .before .before .before .wide5 .ensures .1)
 
 add-result-3 : tie.Need-add-result-3
-add-result-3 c = search needs
+add-result-3 c = omega (arith, c .wide8 .ensures .1, c .before .before .wide7 .ensures .1, c .before .before .before .before .wide6 .ensures .1, c .before .before .before .before .before .before .wide5 .ensures .1)
 
 mul-result-5 : tie.Need-mul-result-5
-mul-result-5 c = search needs
+mul-result-5 c = omega (arith, c .before .before .before .before .before .before .before .before .wide4 .ensures .1)
 
 mul-result-6 : tie.Need-mul-result-6
-mul-result-6 c = search needs
+mul-result-6 c = omega (arith, c .before .before .before .before .before .before .before .before .before .before .wide3 .ensures .1)
 
 add-result-4 : tie.Need-add-result-4
-add-result-4 c = search needs
+add-result-4 c = omega (arith, c .before .before .before .before .before .before .before .before .wide4 .ensures .1, c .before .before .before .before .before .before .before .before .before .before .wide3 .ensures .1)
 
 mul-result-7 : tie.Need-mul-result-7
-mul-result-7 c = search needs
+mul-result-7 c = omega (arith, c .before .before .before .before .before .before .before .before .before .before .before .before .wide2 .ensures .1)
 
 add-result-5 : tie.Need-add-result-5
-add-result-5 c = search needs
+add-result-5 c = omega (arith, c .before .before .before .before .before .before .before .before .wide4 .ensures .1, c .before .before .before .before .before .before .before .before .before .before .wide3 .ensures .1, c .before .before .before .before .before .before .before .before .before .before .before .before .wide2 .ensures .1)
 
 add-result-6 : tie.Need-add-result-6
-add-result-6 c = search needs
+add-result-6 c = omega (arith, c .before .before .before .before .before .before .before .before .wide4 .ensures .1, c .before .before .before .before .before .before .before .before .before .before .wide3 .ensures .1, c .before .before .before .before .before .before .before .before .before .before .before .before .wide2 .ensures .1, c .before .before .before .before .before .before .before .before .before .before .before .before .before .before .wide .ensures .1)
 
 add-result-7 : tie.Need-add-result-7
-add-result-7 c = search needs
+add-result-7 c = omega (arith, c .before .before .before .before .before .before .before .before .before .before .before .before .before .before .wide .ensures .1, c .before .before .before .before .before .before .before .before .before .before .before .before .wide2 .ensures .1, c .before .before .before .before .before .before .before .before .before .before .wide3 .ensures .1, c .before .before .before .before .before .before .before .before .wide4 .ensures .1, c .before .before .before .before .before .before .wide5 .ensures .1, c .before .before .before .before .wide6 .ensures .1, c .before .before .wide7 .ensures .1, c .wide8 .ensures .1)
 
 returns : tie.Need-returns
 unfolding le
