@@ -45,7 +45,7 @@ pub scan-done : (t : List ℕ) (i : ℕ) (s : Scan) → length t / ROW ≤ i →
 unfolding scanRows
 scan-done t i s h = ap (scanRows s) (drop-of-length-le (piecesOf t) {i = i} (rw (rows-length t) h))
 
-bad-stays : (bs : List (List ℕ)) → scanRows Bad bs ≡ Bad
+pub bad-stays : (bs : List (List ℕ)) → scanRows Bad bs ≡ Bad
 unfolding scanRows scanRow
 bad-stays [] = refl
 bad-stays (b ∷ bs) = bad-stays bs

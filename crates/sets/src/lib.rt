@@ -8,7 +8,7 @@ ghost use Rattle.model.specs.Sound.{apart, setsApart, retriesInRange, retriesFi
 ghost use Rattle.sets.specs.Digits.{digitsWait};
 ghost use Rattle.sets.specs.Order.{setsFit, retriesSound};
 
-fn is_set(s: u64) -> bool
+pub fn is_set(s: u64) -> bool
     ensures { λ r. ⌜ r ≡ isSet s ⌝ }
 {
     s % 2 == 0
@@ -21,7 +21,7 @@ fn disjoint(a: u64, b: u64) -> bool
     (a & b) < 2
 }
 
-fn sets_apart(c: Broadcast) -> bool
+pub fn sets_apart(c: Broadcast) -> bool
     ensures { λ r. ⌜ r ≡ setsApart c ⌝ }
 {
     disjoint(c.confirmed, c.waiting)
@@ -36,7 +36,7 @@ pub fn sets_fit(c: Broadcast) -> bool
     is_set(c.confirmed) & is_set(c.waiting) & is_set(c.failed) & sets_apart(c)
 }
 
-fn retries_in_range(r: Retries) -> bool
+pub fn retries_in_range(r: Retries) -> bool
     ensures { λ b. ⌜ b ≡ retriesInRange r ⌝ }
 {
     (r.low < 9223372036854775808) & (r.mid < 9223372036854775808) & (r.high < 9223372036854775808)
@@ -60,7 +60,7 @@ fn digits_wait(word: u64, set: u64) -> bool
 }
 
 // Systems 1 to 21, 22 to 42, 43 to 63.
-fn all_wait(c: Broadcast) -> bool
+pub fn all_wait(c: Broadcast) -> bool
     ensures { λ r. ⌜ r ≡ retriesFit c ⌝ }
 {
     let low = c.retries.low % 9223372036854775808;

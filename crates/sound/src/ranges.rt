@@ -17,13 +17,13 @@ pub fn is_time(t: u32) -> bool
     (1 <= t) & ((t as u64) < 4294967296)
 }
 
-fn is_number(n: u16) -> bool
+pub fn is_number(n: u16) -> bool
     ensures { λ r. ⌜ r ≡ isNumber n ⌝ }
 {
     (1 <= n) & (n <= 65535)
 }
 
-fn is_provider(p: u8) -> bool
+pub fn is_provider(p: u8) -> bool
     ensures { λ r. ⌜ r ≡ isProvider p ⌝ }
 {
     (1 <= p) & (p <= 63)

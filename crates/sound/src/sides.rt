@@ -8,13 +8,13 @@ ghost use mathlib.Core.Path.{_≡_};
 ghost use mathlib.Core.Bool.{_&&_};
 ghost use Rattle.model.specs.Sound.{sidesDiffer, newWhole, oldWhole, causeFits, cancellerFits};
 
-fn sides_differ(v: Version) -> bool
+pub fn sides_differ(v: Version) -> bool
     ensures { λ r. ⌜ r ≡ sidesDiffer v ⌝ }
 {
     v.new.provider != v.old.provider
 }
 
-fn new_whole(s: NewSide) -> bool
+pub fn new_whole(s: NewSide) -> bool
     ensures { λ r. ⌜ r ≡ newWhole s ⌝ }
 {
     (s.created == (s.due != 0))
@@ -22,19 +22,19 @@ fn new_whole(s: NewSide) -> bool
         & (s.created == ranges::ten_digits(s.lrn.0))
 }
 
-fn old_whole(s: OldSide) -> bool
+pub fn old_whole(s: OldSide) -> bool
     ensures { λ r. ⌜ r ≡ oldWhole s ⌝ }
 {
     (s.created == (s.due != 0)) & (s.created == (s.authorization != 0)) & (s.authorization <= 2)
 }
 
-fn cause_fits(s: OldSide) -> bool
+pub fn cause_fits(s: OldSide) -> bool
     ensures { λ r. ⌜ r ≡ causeFits s ⌝ }
 {
     ((s.authorization == 2) == (s.cause != 0)) & (s.cause <= 99)
 }
 
-fn canceller_fits(v: Version) -> bool
+pub fn canceller_fits(v: Version) -> bool
     ensures { λ r. ⌜ r ≡ cancellerFits v ⌝ }
 {
     (0 < v.canceller) == (v.status == 2)
