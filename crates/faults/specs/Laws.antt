@@ -6,8 +6,8 @@ use mathlib.Core.Bool.{Bool, true, false, cond, not, _&&_, false≢true}
 use mathlib.Core.List.{List, [], _∷_}
 use native.Mathlib.Numerals.{add-one}
 use native.Mathlib.Omega.{arith}
-use borrow.Author.Tests.{eq-eqb, ne-eqb}
-use lib.Dec.{eqb}
+use borrow.Author.Tests.{eq-eqb, ne-eqb, lt-ltb, le-ltb, leb-true, leb-false}
+use lib.Dec.{eqb, ltb, leb}
 use Rattle.faults.specs.declared.Found.{Found}
 use Rattle.faults.specs.declared.Fault.{Fault}
 use Rattle.faults.specs.Faults.{Clause, foundAt, firstBroken, before, nearest, firstFault, at, faultless, isFaultless}
@@ -65,6 +65,15 @@ before-is p zero b nz e = absurd (nz refl)
 before-is p (suc j) b nz e =
     let k : suc j - 1 ≡ j = omega arith in
     rw k at e
+
+-- ---- an order that is broken
+
+pub not-leb : (a b : ℕ) → not (leb a b) ≡ ltb b a
+not-leb a b = go (leb a b) refl
+  where
+    go : (x : Bool) → leb a b ≡ x → not x ≡ ltb b a
+    go true e = sym (le-ltb b a (leb-true a b e))
+    go false e = sym (lt-ltb b a (leb-false a b e))
 
 -- ---- clauses
 

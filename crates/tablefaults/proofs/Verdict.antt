@@ -6,11 +6,11 @@ use mathlib.Core.List.{List, [], _∷_}
 use native.Mathlib.Nat.{ne-of-gt}
 use native.Mathlib.Numerals.{add-one}
 use native.Mathlib.Omega.{arith}
-use borrow.Author.Tests.{eq-eqb, ne-eqb, eqb-true, eqb-false, lt-ltb, le-ltb, ltb-true, ltb-false, le-leb, lt-leb, leb-true, leb-false}
+use borrow.Author.Tests.{eq-eqb, ne-eqb, eqb-true, eqb-false, lt-ltb, ltb-true}
 use lib.Dec.{eqb, ltb, leb}
 use lib.ListN.{length, drop}
 use Rattle.faults.specs.Faults.{before, nearest, broken, firstFault, isFaultless}
-use Rattle.faults.specs.Laws.{nearest-same, nearest-none, allHold, none-broken, faultless-next, faulty-here}
+use Rattle.faults.specs.Laws.{not-leb, nearest-same, nearest-none, allHold, none-broken, faultless-next, faulty-here}
 use Rattle.model.proofs.Lists.{and-l}
 use Rattle.model.specs.declared.Broadcast.{Broadcast}
 use Rattle.model.specs.declared.Version.{Version}
@@ -122,13 +122,6 @@ module _ (t : List ℕ) where
     sent = refl;
     work = refl;
   }
-
-  not-leb : (a b : ℕ) → not (leb a b) ≡ ltb b a
-  not-leb a b = go (leb a b) refl
-    where
-      go : (x : Bool) → leb a b ≡ x → not x ≡ ltb b a
-      go true e = sym (le-ltb b a (leb-true a b e))
-      go false e = sym (lt-ltb b a (leb-false a b e))
 
   module _ (i : ℕ) (g : Group) (c : Carried i g) (s : soundVersion (versionAt t i) ≡ true) where
     abbrev v : Version
