@@ -2,6 +2,7 @@
 ghost use Rattle.packing.specs.Layout.{readEvent, Written};
 ghost use Rattle.fields.specs.Calls.{event, Handed};
 
+pub mod fault;
 pub mod run;
 pub mod step;
 
