@@ -3,7 +3,7 @@
 //     compare [events] [seed] [first sequence]
 //
 // Sequences of events over sound situations, with damaged slices between; neighbours exchanged as demand 3 allows; many events in one call;
-// the checks of soundness alone; records; the 35 flows.
+// the checks of soundness alone, and where something is unsound; records; the 35 flows.
 // Sequence n of a seed is always the same, so a difference is replayed with its seed and its number.
 #include <cstdio>
 #include <cstring>
@@ -11,6 +11,7 @@
 #include <fstream>
 
 #include "calls.h"
+#include "faults.hpp"
 #include "generate.hpp"
 #include "scenario.hpp"
 
@@ -28,6 +29,7 @@ struct Slices {
 struct Tally {
     uint64_t events = 0, differ = 0, records = 0, exchanged = 0, unsoundAfter = 0, checks = 0, runs = 0, stops = 0;
     uint64_t outcomes[17][16] = {};  // by kind (0 and 16: no kind) and outcome
+    uint64_t tableFaults[33] = {}, booksFaults[17] = {};  // by number
     uint64_t seed = 0, sequence = 0;
 } tally;
 
@@ -154,6 +156,49 @@ bool compareChecks(const Slices &s, const std::optional<Table> &table, const std
 #endif
 }
 
+#ifdef TEST_FAULTS
+bool same(const lupinenblatt_fault &a, const Fault &b) { return a.clause == b.clause && a.place == b.place && a.second == b.second; }
+
+// What the two calls that say where must have in common with the two checks, which answer the same of the same slices.
+const char *verdictFault(Slices &s, const lupinenblatt_fault &table, const lupinenblatt_fault &books) {
+#ifdef TEST_CHECKS
+    bool rows = lupinenblatt_table_check(at(s.table), s.table.size()).outcome == DONE;
+    bool lists = lupinenblatt_books_check(at(s.providers), s.providers.size(), at(s.books), s.books.size()) == DONE;
+    if ((table.clause == 0) != (rows && lists)) return "table_fault and the checks";
+    if ((table.clause == 32) != (rows && !lists)) return "table_fault's 32 and the checks";
+    if ((books.clause == 0) != lists) return "books_fault and books_check";
+#endif
+    return (void)s, (void)table, (void)books, nullptr;
+}
+#endif
+
+// Where these slices are unsound: clause, place and second place; that the verdict is the checks'; and that nothing is written.
+bool compareFaults(const Slices &s) {
+#ifdef TEST_FAULTS
+    Slices kept = s;
+    lupinenblatt_fault table = lupinenblatt_table_fault(at(kept.table), kept.table.size(), at(kept.providers), kept.providers.size(),
+                                                        at(kept.books), kept.books.size());
+    lupinenblatt_fault books = lupinenblatt_books_fault(at(kept.providers), kept.providers.size(), at(kept.books), kept.books.size());
+    Fault table2 = tableFault(s.table.data(), s.table.size(), s.providers.data(), s.providers.size(), s.books.data(), s.books.size());
+    Fault books2 = booksFault(s.providers.data(), s.providers.size(), s.books.data(), s.books.size());
+    tally.tableFaults[table2.clause]++, tally.booksFaults[books2.clause]++;
+    const char *what = !same(table, table2) ? "table_fault" : !same(books, books2) ? "books_fault"
+        : kept.table != s.table || kept.providers != s.providers || kept.books != s.books ? "a call that says where wrote"
+        : verdictFault(kept, table, books);
+    if (!what) return true;
+    report(what, s, Bytes());
+    auto print = [](const char *who, const char *of, uint64_t clause, uint64_t place, uint64_t second) {
+        std::printf("%s: clause %llu of the %s, place %llu, second %llu\n", who, (unsigned long long)clause, of, (unsigned long long)place,
+                    (unsigned long long)second);
+    };
+    print("model", "table", table2.clause, table2.place, table2.second), print("library", "table", table.clause, table.place, table.second);
+    print("model", "books", books2.clause, books2.place, books2.second), print("library", "books", books.clause, books.place, books.second);
+    return false;
+#else
+    return (void)s, true;
+#endif
+}
+
 // An event on damaged copies of the slices; some damage leaves them sound, and then the event counts as any other.
 bool compareDamaged(Dice &d, const Slices &sane, const Situation &now, const Event &e) {
     Slices s = sane;
@@ -162,7 +207,7 @@ bool compareDamaged(Dice &d, const Slices &sane, const Situation &now, const Eve
     if (d.chance(10)) record = damagedRecord(d, e);
     std::optional<Table> table = unpackTable(s.table.data(), s.table.size());
     std::optional<Books> books = unpackBooks(s.providers.data(), s.providers.size(), s.books.data(), s.books.size());
-    if (!compareChecks(s, table, books)) return false;
+    if (!compareChecks(s, table, books) || !compareFaults(s)) return false;
     return compareStep(s, record, table, books);
 }
 
@@ -214,13 +259,14 @@ void runSequence(Dice &d) {
     std::optional<Table> table = s.table;
     std::optional<Books> books = s.books;
     size_t length = s.table.used.size() + s.table.freeRows > 1000 ? 12 : d.between(20, 140);
-    if (!compareChecks(slices, table, books)) return;
+    if (!compareChecks(slices, table, books) || !compareFaults(slices)) return;
     for (size_t i = 0; i < length; i++) {
         Event e = nextEvent(d, s, 75);
         if (d.chance(9) && !compareDamaged(d, slices, s, sensible(d, s, d.pick(s.tns)))) return;
         if (d.chance(8)) compareRecords(d, e);
         Bytes record = d.chance(3) ? damagedRecord(d, e) : packEvent(e);
         if (!compareStep(slices, record, table, books)) return;
+        if (d.chance(3) && !compareFaults(slices)) return;
         s.table = *table;
     }
 }
@@ -383,6 +429,7 @@ void runRuns(Dice &d) {
         if (d.chance(40)) {
             Slices damaged = slices;
             damage(d, damaged, s);
+            if (!compareFaults(damaged)) return;
             if (!compareRun(damaged, events, anyOutcomes(d, events.size() / RECORD), done)) return;
         }
         if (d.chance(15)) {
@@ -455,6 +502,30 @@ void printTally() {
                 (unsigned long long)tally.checks, (unsigned long long)tally.runs, (unsigned long long)tally.stops);
 }
 
+#ifdef TEST_FAULTS
+// How often each number was seen; in a run of a million events or more each must be seen 50 times. False where one was not.
+bool printFaults(bool enough) {
+    bool good = true;
+    auto seen = [&](int number, const uint64_t *counts, int numbers, const char *of) {
+        if (number >= numbers) return std::printf("%10s", ""), void();
+        std::printf("%10llu", (unsigned long long)counts[number]);
+        if (!enough || counts[number] >= 50) return;
+        good = false;
+        std::printf(" <- number %d of the %s was seen fewer than 50 times", number, of);
+    };
+    std::printf("where         table     books\n");
+    for (int n = 0; n < 33; n++) {
+        std::printf("%-9d", n);
+        seen(n, tally.tableFaults, 33, "table");
+        seen(n, tally.booksFaults, 17, "books");
+        std::printf("\n");
+    }
+    return good;
+}
+#else
+bool printFaults(bool) { return true; }
+#endif
+
 }  // namespace
 
 int main(int argc, char **argv) {
@@ -471,7 +542,8 @@ int main(int argc, char **argv) {
         else runSequence(d);
         if (argc > 3) break;
     }
+    bool enough = printFaults(tally.events >= 1000000);
     printTally();
     std::printf("%llu events compared, %llu differ\n", (unsigned long long)tally.events, (unsigned long long)tally.differ);
-    return tally.differ == 0 ? 0 : 1;
+    return tally.differ == 0 && enough ? 0 : 1;
 }
