@@ -10,9 +10,9 @@
 #include <filesystem>
 #include <fstream>
 
+#include "breaks.hpp"
 #include "calls.h"
 #include "faults.hpp"
-#include "generate.hpp"
 #include "scenario.hpp"
 
 using namespace paper;
@@ -127,15 +127,20 @@ Slices slicesOf(Dice &d, const Situation &s) {
     return out;
 }
 
-// One of the slices or R damaged.
+// One of the slices or R damaged, now and then two slices.
 void damage(Dice &d, Slices &s, const Situation &now) {
     s.shortCall = false;
     uint64_t way = d.below(100);
-    if (way < 55) s.table = damagedTable(d, now.table);
-    else if (way < 78) s.books = damagedBooks(d, now.books);
-    else if (way < 86) s.providers = damagedProviders(d, now.books);
+    if (way < 27) s.table = damagedTable(d, now.table);
+    else if (way < 55) s.table = brokenTable(d, now.table);
+    else if (way < 65) s.books = damagedBooks(d, now.books);
+    else if (way < 78) s.books = brokenBooks(d, now.books);
+    else if (way < 82) s.providers = damagedProviders(d, now.books);
+    else if (way < 86) s.providers = brokenProviders(d, now.books);
     else if (way < 93) s.tray.resize(d.pick(std::vector<size_t>{0, 1, 24, 63 * 24, 63 * 24 + 23, 64 * 24, 64 * 24 + 1, 100 * 24}));
     else s.R = d.chance(60) ? d.between(7, 9) : d.chance(50) ? d.next() : uint64_t(1) << d.between(3, 63);
+    if (way < 86 && d.chance(8)) s.books = brokenBooks(d, now.books);
+    if (way < 86 && d.chance(8)) s.providers = brokenProviders(d, now.books);
 }
 
 // The checks of soundness alone: what they answer of these slices, and that they write nothing.
@@ -157,10 +162,13 @@ bool compareChecks(const Slices &s, const std::optional<Table> &table, const std
 }
 
 #ifdef TEST_FAULTS
-bool same(const lupinenblatt_fault &a, const Fault &b) { return a.clause == b.clause && a.place == b.place && a.second == b.second; }
+void printFault(const char *who, const Fault &f) {
+    std::printf("%s: number %llu, place %llu, second %llu\n", who, (unsigned long long)f.clause, (unsigned long long)f.place,
+                (unsigned long long)f.second);
+}
 
-// What the two calls that say where must have in common with the two checks, which answer the same of the same slices.
-const char *verdictFault(Slices &s, const lupinenblatt_fault &table, const lupinenblatt_fault &books) {
+// The verdict of the calls that say where against that of the two checks.
+const char *verdictFault(Slices &s, const Fault &table, const Fault &books) {
 #ifdef TEST_CHECKS
     bool rows = lupinenblatt_table_check(at(s.table), s.table.size()).outcome == DONE;
     bool lists = lupinenblatt_books_check(at(s.providers), s.providers.size(), at(s.books), s.books.size()) == DONE;
@@ -176,23 +184,20 @@ const char *verdictFault(Slices &s, const lupinenblatt_fault &table, const lupin
 bool compareFaults(const Slices &s) {
 #ifdef TEST_FAULTS
     Slices kept = s;
-    lupinenblatt_fault table = lupinenblatt_table_fault(at(kept.table), kept.table.size(), at(kept.providers), kept.providers.size(),
-                                                        at(kept.books), kept.books.size());
-    lupinenblatt_fault books = lupinenblatt_books_fault(at(kept.providers), kept.providers.size(), at(kept.books), kept.books.size());
+    lupinenblatt_fault t = lupinenblatt_table_fault(at(kept.table), kept.table.size(), at(kept.providers), kept.providers.size(),
+                                                    at(kept.books), kept.books.size());
+    lupinenblatt_fault b = lupinenblatt_books_fault(at(kept.providers), kept.providers.size(), at(kept.books), kept.books.size());
+    Fault table = {t.clause, t.place, t.second}, books = {b.clause, b.place, b.second};
     Fault table2 = tableFault(s.table.data(), s.table.size(), s.providers.data(), s.providers.size(), s.books.data(), s.books.size());
     Fault books2 = booksFault(s.providers.data(), s.providers.size(), s.books.data(), s.books.size());
     tally.tableFaults[table2.clause]++, tally.booksFaults[books2.clause]++;
-    const char *what = !same(table, table2) ? "table_fault" : !same(books, books2) ? "books_fault"
+    const char *what = !(table == table2) ? "table_fault" : !(books == books2) ? "books_fault"
         : kept.table != s.table || kept.providers != s.providers || kept.books != s.books ? "a call that says where wrote"
         : verdictFault(kept, table, books);
     if (!what) return true;
     report(what, s, Bytes());
-    auto print = [](const char *who, const char *of, uint64_t clause, uint64_t place, uint64_t second) {
-        std::printf("%s: clause %llu of the %s, place %llu, second %llu\n", who, (unsigned long long)clause, of, (unsigned long long)place,
-                    (unsigned long long)second);
-    };
-    print("model", "table", table2.clause, table2.place, table2.second), print("library", "table", table.clause, table.place, table.second);
-    print("model", "books", books2.clause, books2.place, books2.second), print("library", "books", books.clause, books.place, books.second);
+    printFault("model, table", table2), printFault("library, table", table);
+    printFault("model, books", books2), printFault("library, books", books);
     return false;
 #else
     return (void)s, true;
