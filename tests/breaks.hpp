@@ -12,14 +12,17 @@ struct Break {
     uint64_t number;
 };
 
+// A place of so many, often the last.
+inline size_t anyPlace(Dice &d, size_t places) { return d.chance(15) ? places - 1 : d.below(places); }
+
 inline std::vector<Break> anyBreaks(Dice &d, size_t places, uint64_t first, uint64_t last) {
-    Break b{d.below(places), d.between(first, last)};
+    Break b{anyPlace(d, places), d.between(first, last)};
     std::vector<Break> out{b};
     for (uint64_t more = d.pick(std::vector<uint64_t>{0, 0, 1, 1, 2, 3}); more > 0; more--) {
         uint64_t way = d.below(4);
         if (way < 2) b.number = b.number == first || (b.number < last && d.chance(50)) ? b.number + 1 : b.number - 1;
-        else if (way == 2) b.at = d.below(places);
-        else b = {d.below(places), d.between(first, last)};
+        else if (way == 2) b.at = anyPlace(d, places);
+        else b = {anyPlace(d, places), d.between(first, last)};
         out.push_back(b);
     }
     return out;
@@ -314,7 +317,7 @@ inline Bytes brokenBooks(Dice &d, Books b) {
     for (Break &k : breaks) {
         size_t used = sizeFor(k.number);
         if (used == 0) continue;
-        k.at = k.at % used;
+        k.at = k.at == 1023 ? used - 1 : k.at % used;  // the last of all places stands for the last used one
         if (k.number > 5 && k.number < 9) breakCode(d, b, k.at, k.number);
         if (k.number > 9 && k.number < 13) breakFilter(d, b, k.at, k.number);
         if (k.number > 13) breakPair(d, b, k.at, k.number);

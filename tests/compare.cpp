@@ -172,8 +172,8 @@ const char *verdictFault(Slices &s, const Fault &table, const Fault &books) {
 #ifdef TEST_CHECKS
     bool rows = lupinenblatt_table_check(at(s.table), s.table.size()).outcome == DONE;
     bool lists = lupinenblatt_books_check(at(s.providers), s.providers.size(), at(s.books), s.books.size()) == DONE;
-    if ((table.clause == 0) != (rows && lists)) return "table_fault and the checks";
-    if ((table.clause == 32) != (rows && !lists)) return "table_fault's 32 and the checks";
+    if ((table.clause == 0) != (rows && lists)) return "table_fault and the two checks";
+    if ((table.clause == 32) != (rows && !lists)) return "table_fault and the table's check";
     if ((books.clause == 0) != lists) return "books_fault and books_check";
 #endif
     return (void)s, (void)table, (void)books, nullptr;

@@ -98,11 +98,13 @@ inline Fault providersFault(const uint8_t *providers, size_t length) {
     return {};
 }
 
+constexpr size_t CODES = 1024, FILTERS = 1024, SPLITS = 64;
+
 // A free place of a list is zero.
 inline bool usedPlace(const uint8_t *list, size_t place, size_t width) { return !allZero(list + (place - 1) * width, width); }
 
 inline Fault codesFault(const Books &b, const uint8_t *list) {
-    for (size_t place = 1; place <= 1024; place++) {
+    for (size_t place = 1; place <= CODES; place++) {
         if (!usedPlace(list, place, 4)) continue;
         if (place > 1 && !usedPlace(list, place - 1, 4)) return {5, place, place - 1};
         uint64_t entry = takeFour(list, 4 * (place - 1)), before = place > 1 ? takeFour(list, 4 * (place - 2)) : 0;
@@ -115,7 +117,7 @@ inline Fault codesFault(const Books &b, const uint8_t *list) {
 
 inline Fault filtersFault(const Books &b, const uint8_t *list) {
     auto filterOf = [](uint64_t entry) { return FilterEntry{entry / 1048576, entry % 1048576}; };
-    for (size_t place = 1; place <= 1024; place++) {
+    for (size_t place = 1; place <= FILTERS; place++) {
         if (!usedPlace(list, place, 4)) continue;
         if (place > 1 && !usedPlace(list, place - 1, 4)) return {9, place, place - 1};
         FilterEntry f = filterOf(takeFour(list, 4 * (place - 1)));
@@ -128,7 +130,7 @@ inline Fault filtersFault(const Books &b, const uint8_t *list) {
 
 inline Fault pairsFault(const uint8_t *list) {
     std::vector<SplitEntry> before;
-    for (size_t place = 1; place <= 64; place++) {
+    for (size_t place = 1; place <= SPLITS; place++) {
         if (!usedPlace(list, place, 8)) continue;
         if (place > 1 && !usedPlace(list, place - 1, 8)) return {13, place, place - 1};
         SplitEntry s = {takeFour(list, 8 * (place - 1)), takeFour(list, 8 * (place - 1) + 4)};
