@@ -95,7 +95,11 @@ inline void breakMarks(Dice &d, Version &v, uint64_t number) {
         if (v.waiting.empty() && !v.confirmed.count(p) && !v.failed.count(p)) v.waiting.insert(p);
         else v.waiting.clear(), v.retries.clear();
         break;
-    case 25: v.purpose = v.purpose == NO_PURPOSE ? Purpose(d.between(1, 3)) : d.chance(50) ? NO_PURPOSE : Purpose(d.between(2, 3)); break;
+    case 25:
+        if (v.purpose == NO_PURPOSE) v.purpose = Purpose(d.between(ACTIVATE, DISCONNECT));
+        else if ((v.status == FAILED || v.status == PARTIAL_FAILURE) && d.chance(50)) v.purpose = Purpose(d.between(MODIFY, DISCONNECT));
+        else v.purpose = NO_PURPOSE;
+        break;
     case 26: v.live = !v.live; break;
     default: breakConfirmed(d, v, p);
     }
@@ -112,7 +116,7 @@ inline void breakVersion(Dice &d, Version &v, uint64_t number) {
     case 10: v.oldProvider = 0; break;
     case 11: v.canceller = Side(3); break;
     case 12: (d.chance(33) ? v.confirmed : d.chance(50) ? v.waiting : v.failed).insert(0); break;
-    case 14: (d.chance(50) ? v.newProvider : v.oldProvider) = d.chance(50) ? v.newProvider : v.oldProvider; break;
+    case 14: v.newProvider = v.oldProvider = d.chance(50) ? v.newProvider : v.oldProvider; break;
     case 15: breakNewSide(d, v); break;
     case 16: breakOldSide(d, v); break;
     case 17: takeNewSide(v), takeOldSide(v); break;
@@ -139,7 +143,7 @@ inline void addNumbers(Dice &d, Table &t, size_t rows) {
 
 // Number 28: the row and the one before it exchanged, or the key of the one before it or less, or that one twice.
 inline void breakOrder(Dice &d, Table &t, size_t at) {
-    if (at == 0) return;
+    at = std::max<size_t>(at, 1);
     Version &before = t.used[at - 1], &v = t.used[at];
     uint64_t way = d.below(4);
     if (way == 0) std::swap(before, v);
@@ -177,7 +181,7 @@ inline void flip(Bytes &out, size_t bit) { out[bit / 8] = uint8_t(out[bit / 8] ^
 inline void breakRows(Dice &d, Bytes &out, size_t at, size_t used) {
     size_t rows = out.size() / ROW, to = used + 1 + d.below(rows - std::min(rows, used + 1));
     if (to < rows && d.chance(40)) std::copy_n(out.begin() + long(at * ROW), ROW, out.begin() + long(to * ROW));
-    else if (at > 0) std::fill_n(out.begin() + long((at - 1) * ROW), ROW, uint8_t(0));
+    else std::fill_n(out.begin() + long((std::max<size_t>(at, 1) - 1) * ROW), ROW, uint8_t(0));
 }
 
 // Numbers 1 and 2: part of a row too much or too little, too many rows, both.
@@ -296,7 +300,7 @@ inline void breakPair(Dice &d, Books &b, size_t at, uint64_t number) {
         return d.chance(50) ? o.one : o.two;
     };
     uint64_t which = d.between(1, 3);
-    if (number == 15) (d.chance(50) ? s.one : s.two) = d.chance(50) ? s.one : s.two;
+    if (number == 15) s.one = s.two = d.chance(50) ? s.one : s.two;
     if (number == 14 && which != 1) s.one = badCode(d, 32);
     if (number == 14 && which != 2) s.two = badCode(d, 32);
     if (number == 16 && at > 0 && which != 1) s.one = earlier();
