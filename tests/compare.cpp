@@ -511,18 +511,16 @@ void printTally() {
 // How often each number was seen; in a run of a million events or more each must be seen 50 times. False where one was not.
 bool printFaults(bool enough) {
     bool good = true;
-    auto seen = [&](int number, const uint64_t *counts, int numbers, const char *of) {
-        if (number >= numbers) return std::printf("%10s", ""), void();
-        std::printf("%10llu", (unsigned long long)counts[number]);
-        if (!enough || counts[number] >= 50) return;
-        good = false;
-        std::printf(" <- number %d of the %s was seen fewer than 50 times", number, of);
+    auto seen = [&](uint64_t count) {
+        bool rare = enough && count < 50;
+        good = good && !rare;
+        std::printf("%10llu%s", (unsigned long long)count, rare ? " (fewer than 50)" : "");
     };
     std::printf("where         table     books\n");
     for (int n = 0; n < 33; n++) {
         std::printf("%-9d", n);
-        seen(n, tally.tableFaults, 33, "table");
-        seen(n, tally.booksFaults, 17, "books");
+        seen(tally.tableFaults[n]);
+        if (n < 17) seen(tally.booksFaults[n]);
         std::printf("\n");
     }
     return good;
