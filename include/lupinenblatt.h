@@ -113,6 +113,62 @@ extern "C" {
 #define LUPINENBLATT_CANCELLER_OLD 2
 
 /*
+ * The clauses that lupinenblatt_table_fault tells, in the order in which they are judged of a row; docs/FAULTS.md says them in full.
+ * LUPINENBLATT_FAULT_NONE is the clause where nothing is at fault, of a table as of books.
+ */
+#define LUPINENBLATT_FAULT_NONE 0
+#define LUPINENBLATT_TABLE_FAULT_LENGTH 1              /* the length is no multiple of the row's 80 bytes */
+#define LUPINENBLATT_TABLE_FAULT_ROWS 2                /* more than 4,096 rows */
+#define LUPINENBLATT_TABLE_FAULT_HOLE 3                /* a used row right behind a free one, which is `second` */
+#define LUPINENBLATT_TABLE_FAULT_SPARE 4               /* a spare bit is set */
+#define LUPINENBLATT_TABLE_FAULT_TN 5                  /* the TN is no TN */
+#define LUPINENBLATT_TABLE_FAULT_VERSION 6             /* the version number is 0 */
+#define LUPINENBLATT_TABLE_FAULT_STATUS 7              /* the status is above 8 */
+#define LUPINENBLATT_TABLE_FAULT_STAMP 8               /* the stamp is 0 */
+#define LUPINENBLATT_TABLE_FAULT_NEW_PROVIDER 9        /* the new provider is 0 */
+#define LUPINENBLATT_TABLE_FAULT_OLD_PROVIDER 10       /* the old provider is 0 */
+#define LUPINENBLATT_TABLE_FAULT_CANCELLER 11          /* the canceller is 3, neither side */
+#define LUPINENBLATT_TABLE_FAULT_SET 12                /* bit 0 of a set, which is nobody's, is set */
+#define LUPINENBLATT_TABLE_FAULT_RETRIES 13            /* the highest bit of a word of retries, which is nobody's, is set */
+#define LUPINENBLATT_TABLE_FAULT_SAME_PROVIDERS 14     /* new and old provider are the same */
+#define LUPINENBLATT_TABLE_FAULT_NEW_SIDE 15           /* the new side's due date and LRN do not go with its having created */
+#define LUPINENBLATT_TABLE_FAULT_OLD_SIDE 16           /* the old side's due date and authorization do not go with its having created */
+#define LUPINENBLATT_TABLE_FAULT_NO_SIDE 17            /* neither side has created */
+#define LUPINENBLATT_TABLE_FAULT_NEEDED_SIDE 18        /* a side that the status needs has not created */
+#define LUPINENBLATT_TABLE_FAULT_CAUSE 19              /* the cause is not 1 to 99 with "no", or not 0 without */
+#define LUPINENBLATT_TABLE_FAULT_CANCELLED 20          /* a canceller outside cancel-pending, or none in it */
+#define LUPINENBLATT_TABLE_FAULT_SETS_MEET 21          /* a system stands in two of the three sets */
+#define LUPINENBLATT_TABLE_FAULT_RETRIES_UNAWAITED 22  /* retries used by a system that is not waiting */
+#define LUPINENBLATT_TABLE_FAULT_START 23              /* a broadcast start outside sending, or none in it */
+#define LUPINENBLATT_TABLE_FAULT_WAITING 24            /* a waiting system outside sending, or none in it */
+#define LUPINENBLATT_TABLE_FAULT_PURPOSE 25            /* the purpose does not go with the status */
+#define LUPINENBLATT_TABLE_FAULT_LIVE 26               /* live where the status forbids it, or not live where it must be */
+#define LUPINENBLATT_TABLE_FAULT_UNCONFIRMED 27        /* live by activate with a waiting or failed system and no confirmed one */
+#define LUPINENBLATT_TABLE_FAULT_ORDER 28              /* not above the row before it, which is `second` */
+#define LUPINENBLATT_TABLE_FAULT_SECOND_LIVE 29        /* a second live version of its TN; `second` is the other */
+#define LUPINENBLATT_TABLE_FAULT_SECOND_SENDING 30     /* a second sending version of its TN; likewise */
+#define LUPINENBLATT_TABLE_FAULT_SECOND_WORKED 31      /* a second worked version of its TN; likewise */
+#define LUPINENBLATT_TABLE_FAULT_BOOKS 32              /* the rows are sound, provider list or books are not */
+
+/* The clauses that lupinenblatt_books_fault tells, likewise. */
+#define LUPINENBLATT_BOOKS_FAULT_PROVIDERS 1         /* the provider list has more than 63 bytes */
+#define LUPINENBLATT_BOOKS_FAULT_PROVIDER 2          /* a byte of the provider list is not 0, 1 or 3 */
+#define LUPINENBLATT_BOOKS_FAULT_LENGTH 3            /* the books are not 8,712 bytes */
+#define LUPINENBLATT_BOOKS_FAULT_HEAD 4              /* the first eight bytes are not zero */
+#define LUPINENBLATT_BOOKS_FAULT_CODES_HOLE 5        /* a code right behind a free place, which is `second` */
+#define LUPINENBLATT_BOOKS_FAULT_CODE 6              /* the code is no code */
+#define LUPINENBLATT_BOOKS_FAULT_OWNER 7             /* the owner is 0 or absent */
+#define LUPINENBLATT_BOOKS_FAULT_CODES_ORDER 8       /* not above the code before it, which is `second` */
+#define LUPINENBLATT_BOOKS_FAULT_FILTERS_HOLE 9      /* a filter right behind a free place, which is `second` */
+#define LUPINENBLATT_BOOKS_FAULT_FILTER_PROVIDER 10  /* the provider is 0, above 63 or absent */
+#define LUPINENBLATT_BOOKS_FAULT_FILTER_CODE 11      /* the code is no code */
+#define LUPINENBLATT_BOOKS_FAULT_FILTERS_ORDER 12    /* not above the filter before it, which is `second` */
+#define LUPINENBLATT_BOOKS_FAULT_PAIRS_HOLE 13       /* a pair right behind a free place, which is `second` */
+#define LUPINENBLATT_BOOKS_FAULT_PAIR_CODE 14        /* a code of the pair is no code */
+#define LUPINENBLATT_BOOKS_FAULT_SAME_CODES 15       /* both codes of the pair are the same */
+#define LUPINENBLATT_BOOKS_FAULT_PAIRED_TWICE 16     /* a code of the pair stands in a pair before it; `second` is the nearest */
+
+/*
  * Reads an event record.
  *
  * If the bytes are 24 and a well-formed record, and the places are exactly ten, it returns LUPINENBLATT_DONE, and the places hold the ten
@@ -191,6 +247,32 @@ lupinenblatt_answer lupinenblatt_table_check(const uint8_t *table, size_t table_
  * Whether bytes are a sound provider list and sound books: LUPINENBLATT_DONE or LUPINENBLATT_UNSOUND. A step makes this check itself.
  */
 uint8_t lupinenblatt_books_check(const uint8_t *providers, size_t providers_length, const uint8_t *books, size_t books_length);
+
+/*
+ * Where something is at fault: the number of the clause that fails, the place of the row or entry at fault, and a second place. Places count
+ * from 1; 0 says that there is none.
+ */
+typedef struct {
+    uint64_t clause;
+    uint64_t place;
+    uint64_t second;
+} lupinenblatt_fault;
+
+/*
+ * Where a table is unsound: of the first row at fault the smallest LUPINENBLATT_TABLE_FAULT_.. that it breaks, its place, and the place of an
+ * earlier row where the clause ties it to one. Where the rows are sound it is LUPINENBLATT_TABLE_FAULT_BOOKS if provider list or books are
+ * not. All three numbers are 0 exactly where lupinenblatt_table_check and lupinenblatt_books_check find nothing. The slices are only read.
+ */
+lupinenblatt_fault lupinenblatt_table_fault(const uint8_t *table, size_t table_length, const uint8_t *providers, size_t providers_length,
+                                            const uint8_t *books, size_t books_length);
+
+/*
+ * Where provider list or books are unsound: of the first place at fault the smallest LUPINENBLATT_BOOKS_FAULT_.. that it breaks, the place in
+ * its own list (of the provider list it is the provider), and an earlier place where the clause ties it to one. The provider list is judged
+ * first, then the books' length and head, then codes, filters and pairs. All three numbers are 0 exactly where lupinenblatt_books_check finds
+ * nothing. The slices are only read.
+ */
+lupinenblatt_fault lupinenblatt_books_fault(const uint8_t *providers, size_t providers_length, const uint8_t *books, size_t books_length);
 
 /*
  * Readers of a message and of a row, for C alone: each takes a pointer to the first byte of a place of the tray (24 bytes) or of a row (80

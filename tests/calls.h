@@ -1,7 +1,7 @@
 /*
  * The calls for C that the tests make. include/lupinenblatt.h declares them; the declarations below stand for those that it lacks (tests/flags
- * sees which and sets LUPINENBLATT_HEADER_HAS_..). TEST_CHECKS and TEST_RUN say whether the calls of that name are tested: they are where the
- * header declares them or something stands in for the library.
+ * sees which and sets LUPINENBLATT_HEADER_HAS_..). TEST_CHECKS, TEST_FAULTS and TEST_RUN say whether the calls of that name are tested: they
+ * are where the header declares them or something stands in for the library.
  */
 #ifndef LUPINENBLATT_TESTS_CALLS_H
 #define LUPINENBLATT_TESTS_CALLS_H
@@ -34,6 +34,20 @@ lupinenblatt_answer lupinenblatt_table_check(const uint8_t *table, size_t table_
 
 /* 0 where provider list and books are sound, otherwise 1. */
 uint8_t lupinenblatt_books_check(const uint8_t *providers, size_t providers_length, const uint8_t *books, size_t books_length);
+#endif
+
+#ifndef LUPINENBLATT_HEADER_HAS_FAULTS
+/* The clause that fails, the place at fault, a second place; from 1, and 0 where there is none. docs/FAULTS.md. */
+typedef struct {
+    uint64_t clause;
+    uint64_t place;
+    uint64_t second;
+} lupinenblatt_fault;
+
+lupinenblatt_fault lupinenblatt_table_fault(const uint8_t *table, size_t table_length, const uint8_t *providers, size_t providers_length,
+                                            const uint8_t *books, size_t books_length);
+
+lupinenblatt_fault lupinenblatt_books_fault(const uint8_t *providers, size_t providers_length, const uint8_t *books, size_t books_length);
 #endif
 
 #ifndef LUPINENBLATT_HEADER_HAS_RUN

@@ -3,15 +3,16 @@
 //     compare [events] [seed] [first sequence]
 //
 // Sequences of events over sound situations, with damaged slices between; neighbours exchanged as demand 3 allows; many events in one call;
-// the checks of soundness alone; records; the 35 flows.
+// the checks of soundness alone, and where something is unsound; records; the 35 flows.
 // Sequence n of a seed is always the same, so a difference is replayed with its seed and its number.
 #include <cstdio>
 #include <cstring>
 #include <filesystem>
 #include <fstream>
 
+#include "breaks.hpp"
 #include "calls.h"
-#include "generate.hpp"
+#include "faults.hpp"
 #include "scenario.hpp"
 
 using namespace paper;
@@ -28,6 +29,7 @@ struct Slices {
 struct Tally {
     uint64_t events = 0, differ = 0, records = 0, exchanged = 0, unsoundAfter = 0, checks = 0, runs = 0, stops = 0;
     uint64_t outcomes[17][16] = {};  // by kind (0 and 16: no kind) and outcome
+    uint64_t tableFaults[33] = {}, booksFaults[17] = {};  // by number
     uint64_t seed = 0, sequence = 0;
 } tally;
 
@@ -125,15 +127,20 @@ Slices slicesOf(Dice &d, const Situation &s) {
     return out;
 }
 
-// One of the slices or R damaged.
+// One of the slices or R damaged, now and then two slices.
 void damage(Dice &d, Slices &s, const Situation &now) {
     s.shortCall = false;
     uint64_t way = d.below(100);
-    if (way < 55) s.table = damagedTable(d, now.table);
-    else if (way < 78) s.books = damagedBooks(d, now.books);
-    else if (way < 86) s.providers = damagedProviders(d, now.books);
+    if (way < 27) s.table = damagedTable(d, now.table);
+    else if (way < 55) s.table = brokenTable(d, now.table);
+    else if (way < 65) s.books = damagedBooks(d, now.books);
+    else if (way < 78) s.books = brokenBooks(d, now.books);
+    else if (way < 82) s.providers = damagedProviders(d, now.books);
+    else if (way < 86) s.providers = brokenProviders(d, now.books);
     else if (way < 93) s.tray.resize(d.pick(std::vector<size_t>{0, 1, 24, 63 * 24, 63 * 24 + 23, 64 * 24, 64 * 24 + 1, 100 * 24}));
     else s.R = d.chance(60) ? d.between(7, 9) : d.chance(50) ? d.next() : uint64_t(1) << d.between(3, 63);
+    if (way < 86 && d.chance(8)) s.books = brokenBooks(d, now.books);
+    if (way < 86 && d.chance(8)) s.providers = brokenProviders(d, now.books);
 }
 
 // The checks of soundness alone: what they answer of these slices, and that they write nothing.
@@ -154,6 +161,49 @@ bool compareChecks(const Slices &s, const std::optional<Table> &table, const std
 #endif
 }
 
+#ifdef TEST_FAULTS
+void printFault(const char *who, const Fault &f) {
+    std::printf("%s: number %llu, place %llu, second %llu\n", who, (unsigned long long)f.clause, (unsigned long long)f.place,
+                (unsigned long long)f.second);
+}
+
+// The verdict of the calls that say where against that of the two checks.
+const char *verdictFault(Slices &s, const Fault &table, const Fault &books) {
+#ifdef TEST_CHECKS
+    bool rows = lupinenblatt_table_check(at(s.table), s.table.size()).outcome == DONE;
+    bool lists = lupinenblatt_books_check(at(s.providers), s.providers.size(), at(s.books), s.books.size()) == DONE;
+    if ((table.clause == 0) != (rows && lists)) return "table_fault and the two checks";
+    if ((table.clause == 32) != (rows && !lists)) return "table_fault and the table's check";
+    if ((books.clause == 0) != lists) return "books_fault and books_check";
+#endif
+    return (void)s, (void)table, (void)books, nullptr;
+}
+#endif
+
+// Where these slices are unsound: clause, place and second place; that the verdict is the checks'; and that nothing is written.
+bool compareFaults(const Slices &s) {
+#ifdef TEST_FAULTS
+    Slices kept = s;
+    lupinenblatt_fault t = lupinenblatt_table_fault(at(kept.table), kept.table.size(), at(kept.providers), kept.providers.size(),
+                                                    at(kept.books), kept.books.size());
+    lupinenblatt_fault b = lupinenblatt_books_fault(at(kept.providers), kept.providers.size(), at(kept.books), kept.books.size());
+    Fault table = {t.clause, t.place, t.second}, books = {b.clause, b.place, b.second};
+    Fault table2 = tableFault(s.table.data(), s.table.size(), s.providers.data(), s.providers.size(), s.books.data(), s.books.size());
+    Fault books2 = booksFault(s.providers.data(), s.providers.size(), s.books.data(), s.books.size());
+    tally.tableFaults[table2.clause]++, tally.booksFaults[books2.clause]++;
+    const char *what = !(table == table2) ? "table_fault" : !(books == books2) ? "books_fault"
+        : kept.table != s.table || kept.providers != s.providers || kept.books != s.books ? "a call that says where wrote"
+        : verdictFault(kept, table, books);
+    if (!what) return true;
+    report(what, s, Bytes());
+    printFault("model, table", table2), printFault("library, table", table);
+    printFault("model, books", books2), printFault("library, books", books);
+    return false;
+#else
+    return (void)s, true;
+#endif
+}
+
 // An event on damaged copies of the slices; some damage leaves them sound, and then the event counts as any other.
 bool compareDamaged(Dice &d, const Slices &sane, const Situation &now, const Event &e) {
     Slices s = sane;
@@ -162,7 +212,7 @@ bool compareDamaged(Dice &d, const Slices &sane, const Situation &now, const Eve
     if (d.chance(10)) record = damagedRecord(d, e);
     std::optional<Table> table = unpackTable(s.table.data(), s.table.size());
     std::optional<Books> books = unpackBooks(s.providers.data(), s.providers.size(), s.books.data(), s.books.size());
-    if (!compareChecks(s, table, books)) return false;
+    if (!compareChecks(s, table, books) || !compareFaults(s)) return false;
     return compareStep(s, record, table, books);
 }
 
@@ -214,13 +264,14 @@ void runSequence(Dice &d) {
     std::optional<Table> table = s.table;
     std::optional<Books> books = s.books;
     size_t length = s.table.used.size() + s.table.freeRows > 1000 ? 12 : d.between(20, 140);
-    if (!compareChecks(slices, table, books)) return;
+    if (!compareChecks(slices, table, books) || !compareFaults(slices)) return;
     for (size_t i = 0; i < length; i++) {
         Event e = nextEvent(d, s, 75);
         if (d.chance(9) && !compareDamaged(d, slices, s, sensible(d, s, d.pick(s.tns)))) return;
         if (d.chance(8)) compareRecords(d, e);
         Bytes record = d.chance(3) ? damagedRecord(d, e) : packEvent(e);
         if (!compareStep(slices, record, table, books)) return;
+        if (d.chance(3) && !compareFaults(slices)) return;
         s.table = *table;
     }
 }
@@ -383,6 +434,7 @@ void runRuns(Dice &d) {
         if (d.chance(40)) {
             Slices damaged = slices;
             damage(d, damaged, s);
+            if (!compareFaults(damaged)) return;
             if (!compareRun(damaged, events, anyOutcomes(d, events.size() / RECORD), done)) return;
         }
         if (d.chance(15)) {
@@ -455,6 +507,28 @@ void printTally() {
                 (unsigned long long)tally.checks, (unsigned long long)tally.runs, (unsigned long long)tally.stops);
 }
 
+#ifdef TEST_FAULTS
+// How often each number was seen; in a run of a million events or more each must be seen 50 times. False where one was not.
+bool printFaults(bool enough) {
+    bool good = true;
+    auto seen = [&](uint64_t count) {
+        bool rare = enough && count < 50;
+        good = good && !rare;
+        std::printf("%10llu%s", (unsigned long long)count, rare ? " (fewer than 50)" : "");
+    };
+    std::printf("where         table     books\n");
+    for (int n = 0; n < 33; n++) {
+        std::printf("%-9d", n);
+        seen(tally.tableFaults[n]);
+        if (n < 17) seen(tally.booksFaults[n]);
+        std::printf("\n");
+    }
+    return good;
+}
+#else
+bool printFaults(bool) { return true; }
+#endif
+
 }  // namespace
 
 int main(int argc, char **argv) {
@@ -471,7 +545,8 @@ int main(int argc, char **argv) {
         else runSequence(d);
         if (argc > 3) break;
     }
+    bool enough = printFaults(tally.events >= 1000000);
     printTally();
     std::printf("%llu events compared, %llu differ\n", (unsigned long long)tally.events, (unsigned long long)tally.differ);
-    return tally.differ == 0 ? 0 : 1;
+    return tally.differ == 0 && enough ? 0 : 1;
 }

@@ -5,16 +5,18 @@
 // Each slice lies alone in memory, at any start: guard bytes stand before and behind it, and where it ends or begins a page, the next page
 // may not be touched at all, not even read. A fault is: a byte changed by a refusal, or outside a slice, or of a slice that is only read, or
 // of the tray behind its messages; an outcome above 14; outcome 1 or 2 where the model's checks say otherwise; outcome 0 with an unsound
-// table left or more than 63 messages. Of many events in one call the same, and that it stops where the tray says so. What an accepted event
-// should do is asked by compare, not here.
+// table left or more than 63 messages. Of many events in one call the same, and that it stops where the tray says so. Of the checks and of the
+// calls that say where something is unsound: another answer than the model's, anything written. What an accepted event should do is asked by
+// compare, not here.
 #include <csignal>
 #include <cstdio>
 #include <cstring>
 #include <sys/mman.h>
 #include <unistd.h>
 
+#include "breaks.hpp"
 #include "calls.h"
-#include "generate.hpp"
+#include "faults.hpp"
 #include "scenario.hpp"
 
 using namespace paper;
@@ -136,9 +138,9 @@ Input makeInput(Dice &d, const Situation &s) {
     in.tray = anyBytes(d, PLACES * MESSAGE + (d.chance(20) ? d.below(80) : 0));
     in.R = s.R;
     uint64_t way = d.below(100);
-    if (way < 8) in.table = damagedTable(d, s.table);
-    else if (way < 14) in.books = damagedBooks(d, s.books);
-    else if (way < 18) in.providers = damagedProviders(d, s.books);
+    if (way < 8) in.table = d.chance(50) ? damagedTable(d, s.table) : brokenTable(d, s.table);
+    else if (way < 14) in.books = d.chance(50) ? damagedBooks(d, s.books) : brokenBooks(d, s.books);
+    else if (way < 18) in.providers = d.chance(50) ? damagedProviders(d, s.books) : brokenProviders(d, s.books);
     else if (way < 28) stir(d, in.table);
     else if (way < 34) stir(d, in.books);
     else if (way < 38) stir(d, in.providers);
@@ -288,6 +290,30 @@ void checkChecks(Dice &d, Places &p, const Input &in) {
 }
 #endif
 
+#ifdef TEST_FAULTS
+// The calls that say where something is unsound.
+void checkFaults(Dice &d, Places &p, const Input &in) {
+    uint8_t *table = p.table.lay(d, in.table), *providers = p.providers.lay(d, in.providers), *books = p.books.lay(d, in.books);
+    lupinenblatt_fault a = lupinenblatt_table_fault(table, in.table.size(), providers, in.providers.size(), books, in.books.size());
+    lupinenblatt_fault b = lupinenblatt_books_fault(providers, in.providers.size(), books, in.books.size());
+    Fault t = tableFault(in.table.data(), in.table.size(), in.providers.data(), in.providers.size(), in.books.data(), in.books.size());
+    Fault l = booksFault(in.providers.data(), in.providers.size(), in.books.data(), in.books.size());
+    const char *what = nullptr;
+    if (!(Fault{a.clause, a.place, a.second} == t)) what = "table_fault answers wrongly";
+    else if (!(Fault{b.clause, b.place, b.second} == l)) what = "books_fault answers wrongly";
+    else if (!p.table.same(0) || !p.providers.same(0) || !p.books.same(0)) what = "a call that says where wrote";
+    bool guarded = true;
+    for (Place *place : {&p.table, &p.providers, &p.books}) guarded = place->guarded() && guarded;
+    if (!guarded) what = "a call that says where wrote outside a slice";
+    if (!what) return;
+    fault(what);
+    if (faults > 1) return;
+    std::printf("table %llu %llu %llu, books %llu %llu %llu\n", (unsigned long long)a.clause, (unsigned long long)a.place,
+                (unsigned long long)a.second, (unsigned long long)b.clause, (unsigned long long)b.place, (unsigned long long)b.second);
+    printInput(in);
+}
+#endif
+
 // The record's two calls: 0 or 2, nothing written with 2, nothing outside. A guard number stands before and behind the fields.
 void checkRecord(Dice &d, Places &p, const Input &in) {
     size_t length = d.chance(70) ? RECORD : d.below(60), places = d.chance(80) ? 10 : d.below(20);
@@ -344,8 +370,11 @@ int main(int argc, char **argv) {
 #ifdef TEST_CHECKS
         else if (way < 22) checkChecks(own, places, in);
 #endif
+#ifdef TEST_FAULTS
+        else if (way < 32) checkFaults(own, places, in);
+#endif
 #ifdef TEST_RUN
-        else if (way < 42) {
+        else if (way < 52) {
             Bytes blank = makeRun(own, s, in);
             checkRun(own, places, in, blank);
         }

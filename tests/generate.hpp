@@ -463,11 +463,14 @@ inline void damageVersion(Dice &d, Version &v) {
     }
 }
 
+inline void takeNewSide(Version &v) { v.newCreated = false, v.lrn = Lrn{}, v.newDue = 0; }
+inline void takeOldSide(Version &v) { v.oldCreated = false, v.authorization = NONE, v.cause = 0, v.oldDue = 0; }
+
 // A whole side taken away or another status with all that belongs to it, so that at most one clause is broken.
 inline void damageJointly(Dice &d, Version &v) {
     uint64_t way = d.below(8);
-    if (way == 0 || way == 2) v.newCreated = false, v.lrn = Lrn{}, v.newDue = 0;
-    if (way == 1 || way == 2) v.oldCreated = false, v.authorization = NONE, v.cause = 0, v.oldDue = 0;
+    if (way == 0 || way == 2) takeNewSide(v);
+    if (way == 1 || way == 2) takeOldSide(v);
     if (way < 3) return;
     v.status = Status(d.below(9));
     v.canceller = v.status != CANCEL_PENDING ? NOBODY : d.chance(50) ? NEW_SIDE : OLD_SIDE;
@@ -481,9 +484,14 @@ inline void damageJointly(Dice &d, Version &v) {
     v.live = v.status == PARTIAL_FAILURE || v.status == ACTIVE || (v.status == SENDING && (v.purpose != ACTIVATE || d.chance(30)));
 }
 
+// Ten digits, the first or the fourth of them 0 or 1.
+inline uint64_t badDigits(Dice &d, uint64_t n) {
+    if (d.chance(50)) return n % 1000000 + n / 10000000 * 10000000 + d.below(2) * 1000000;
+    return n % 1000000000 + d.below(2) * 1000000000;
+}
+
 // One value just beyond its range, where everything else stays as it should be.
 inline void damageEdge(Dice &d, Version &v) {
-    auto badDigits = [&](uint64_t n) { return d.chance(50) ? n % 1000000 + n / 10000000 * 10000000 + d.below(2) * 1000000 : n % 1000000000 + d.below(2) * 1000000000; };
     for (;;) switch (d.below(9)) {
     case 0: if (v.status != CANCELED) continue; v.status = Status(d.between(9, 15)); return;
     case 1: if (v.status != CANCEL_PENDING) continue; v.canceller = Side(3); return;
@@ -491,21 +499,16 @@ inline void damageEdge(Dice &d, Version &v) {
     case 3: if (v.authorization != YES) continue; v.authorization = Authorization(3); return;
     case 4: v.number = 0; return;
     case 5: (d.chance(50) ? v.newProvider : v.oldProvider) = 0; return;
-    case 6: if (!v.newCreated) continue; v.lrn.digits = badDigits(v.lrn.digits); return;
-    case 7: v.tn.digits = badDigits(v.tn.digits); return;
+    case 6: if (!v.newCreated) continue; v.lrn.digits = badDigits(d, v.lrn.digits); return;
+    case 7: v.tn.digits = badDigits(d, v.tn.digits); return;
     default: if (!v.newCreated) continue; v.lrn.digits = d.between(10000000000, 17179869183); return;
     }
 }
 
-// A bit of a row that no value has.
-inline size_t spareBit(Dice &d) {
-    switch (d.below(4)) {
-    case 0: return 58 + d.below(6);
-    case 1: return 64 + 59 + d.below(5);
-    case 2: return 64 * d.between(4, 6) + 63;
-    default: return 64 * d.between(7, 9);
-    }
-}
+// A bit of a row that no value has: a spare one, the highest of a word of retries, one of these or nobody's in a set.
+inline size_t spareBit(Dice &d) { return d.chance(50) ? 58 + d.below(6) : 64 + 59 + d.below(5); }
+inline size_t unusedRetriesBit(Dice &d) { return 64 * d.between(7, 9); }
+inline size_t unusedBit(Dice &d) { return d.chance(50) ? spareBit(d) : d.chance(50) ? 64 * d.between(4, 6) + 63 : unusedRetriesBit(d); }
 
 // Two rows of a TN where there was one; equal keys; rows exchanged; a hole; an odd byte in a free row; a spare bit; another length.
 inline Bytes damagedTable(Dice &d, Table t) {
@@ -539,7 +542,7 @@ inline Bytes damagedTable(Dice &d, Table t) {
         size_t from = used * ROW, length = out.size() - from;
         if (length > 0) out[from + d.below(length)] = uint8_t(d.between(1, 255));
     } else if (way < 95) {
-        size_t row = d.below(used > 0 ? used : out.size() / ROW), bit = row * ROW * 8 + (d.chance(60) ? spareBit(d) : d.below(ROW * 8));
+        size_t row = d.below(used > 0 ? used : out.size() / ROW), bit = row * ROW * 8 + (d.chance(60) ? unusedBit(d) : d.below(ROW * 8));
         out[bit / 8] = uint8_t(out[bit / 8] ^ 128u >> bit % 8);
     } else {
         out.resize(d.chance(60) ? out.size() + d.below(81) : d.chance(80) ? out.size() - std::min<size_t>(out.size(), 1 + d.below(79)) : 4097 * ROW, 0);

@@ -81,16 +81,19 @@ inline void packRow(const Version &v, uint8_t *out) {
     retriesOf(v, 43).into(out + 72);
 }
 
-inline bool unpackRetries(Version &v, Provider first, const uint8_t *in) {
+// What a row's words hold, be it a version or not: the fields, and whether a bit is set that no field has, a spare one or the highest of a
+// word of retries.
+struct Row : Version { bool spare = false, highest = false; };
+
+inline void readRetries(Row &v, Provider first, const uint8_t *in) {
     WordReader w(in);
-    bool spare = w.take(1) != 0;
+    if (w.take(1) != 0) v.highest = true;
     for (Provider p = first + 20; p >= first; p--)
         if (uint64_t n = w.take(3)) v.retries[p] = n;
-    return !spare;
 }
 
-inline std::optional<Version> unpackRow(const uint8_t *in) {
-    Version v;
+inline Row readRow(const uint8_t *in) {
+    Row v;
     WordReader w0(in), w1(in + 8), w2(in + 16), w3(in + 24);
     v.tn.digits = w0.take(34), v.number = w0.take(16), v.status = Status(w0.take(4)), v.live = w0.take(1), v.newCreated = w0.take(1);
     v.oldCreated = w0.take(1), v.windowRanOut = w0.take(1);
@@ -100,11 +103,16 @@ inline std::optional<Version> unpackRow(const uint8_t *in) {
     v.confirmed = systemsIn(WordReader(in + 32).take(64));
     v.waiting = systemsIn(WordReader(in + 40).take(64));
     v.failed = systemsIn(WordReader(in + 48).take(64));
-    bool fits = w0.take(6) == 0 && w1.take(5) == 0;
-    fits = unpackRetries(v, 1, in + 56) && fits;
-    fits = unpackRetries(v, 22, in + 64) && fits;
-    fits = unpackRetries(v, 43, in + 72) && fits;
-    if (!fits) return std::nullopt;
+    v.spare = w0.take(6) != 0 || w1.take(5) != 0;
+    readRetries(v, 1, in + 56);
+    readRetries(v, 22, in + 64);
+    readRetries(v, 43, in + 72);
+    return v;
+}
+
+inline std::optional<Version> unpackRow(const uint8_t *in) {
+    Row v = readRow(in);
+    if (v.spare || v.highest) return std::nullopt;
     return v;
 }
 

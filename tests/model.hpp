@@ -81,15 +81,15 @@ inline bool soundCodes(const Books &b) {
 }
 
 // [B3]
+inline bool rising(const FilterEntry &a, const FilterEntry &b) {
+    return a.provider < b.provider || (a.provider == b.provider && a.code < b.code);
+}
+
 inline bool soundFilters(const Books &b) {
     for (size_t i = 0; i < b.filters.size(); i++) {
         const FilterEntry &f = b.filters[i];
         if (!present(b, f.provider) || !isCode(f.code)) return false;
-        if (i > 0) {
-            const FilterEntry &before = b.filters[i - 1];
-            bool rising = before.provider < f.provider || (before.provider == f.provider && before.code < f.code);
-            if (!rising) return false;
-        }
+        if (i > 0 && !rising(b.filters[i - 1], f)) return false;
     }
     return b.filters.size() <= 1024;
 }
@@ -156,16 +156,26 @@ inline bool inRange(const Version &v) {
         && systems(v.confirmed) && systems(v.waiting) && systems(v.failed);
 }
 
-// [V2] [V3] [V4] [V5] What a side has, who has created, cause and canceller.
-inline bool soundSides(const Version &v) {
-    if (v.newCreated != (v.newDue != 0) || v.newCreated != (v.lrn.digits != 0)) return false;
-    if (v.oldCreated != (v.oldDue != 0) || v.oldCreated != (v.authorization != NONE)) return false;
-    if (!v.newCreated && !v.oldCreated) return false;
+// [V2] A side has its due date and its LRN or authorization, both exactly when it has created; one has.
+inline bool newSideWhole(const Version &v) { return v.newCreated == (v.newDue != 0) && v.newCreated == (v.lrn.digits != 0); }
+inline bool oldSideWhole(const Version &v) { return v.oldCreated == (v.oldDue != 0) && v.oldCreated == (v.authorization != NONE); }
+inline bool oneCreated(const Version &v) { return v.newCreated || v.oldCreated; }
+
+// [V3] The sides that the status needs have created.
+inline bool neededCreated(const Version &v) {
     if (v.status == CONFLICT && !v.oldCreated) return false;
     if (v.status == CANCEL_PENDING && !(v.newCreated && v.oldCreated)) return false;
     if (v.status >= SENDING && v.status <= OLD && !v.newCreated) return false;
-    if ((v.authorization == NO) != (v.cause != 0)) return false;
-    return (v.canceller != NOBODY) == (v.status == CANCEL_PENDING);
+    return true;
+}
+
+// [V4] [V5]
+inline bool causeFits(const Version &v) { return (v.authorization == NO) == (v.cause != 0); }
+inline bool cancellerFits(const Version &v) { return (v.canceller != NOBODY) == (v.status == CANCEL_PENDING); }
+
+// [V2] to [V5] The sides.
+inline bool soundSides(const Version &v) {
+    return newSideWhole(v) && oldSideWhole(v) && oneCreated(v) && neededCreated(v) && causeFits(v) && cancellerFits(v);
 }
 
 inline bool disjoint(const Systems &a, const Systems &b) {
@@ -174,20 +184,45 @@ inline bool disjoint(const Systems &a, const Systems &b) {
     return true;
 }
 
-// [V6] to [V10] The broadcast.
-inline bool soundBroadcast(const Version &v) {
-    bool sending = v.status == SENDING;
-    if (!disjoint(v.confirmed, v.waiting) || !disjoint(v.confirmed, v.failed) || !disjoint(v.waiting, v.failed)) return false;
+// [V6] No system in two sets; retries of waiting systems alone.
+inline bool setsApart(const Version &v) {
+    return disjoint(v.confirmed, v.waiting) && disjoint(v.confirmed, v.failed) && disjoint(v.waiting, v.failed);
+}
+
+inline bool retriesAwaited(const Version &v) {
     for (const auto &entry : v.retries)
         if (!v.waiting.count(entry.first)) return false;
-    if ((v.start != 0) != sending || !v.waiting.empty() != sending) return false;
+    return true;
+}
+
+// [V7]
+inline bool startFits(const Version &v) { return (v.start != 0) == (v.status == SENDING); }
+inline bool waitingFits(const Version &v) { return !v.waiting.empty() == (v.status == SENDING); }
+
+// [V8]
+inline bool purposeFits(const Version &v) {
     if ((v.purpose != NO_PURPOSE) != (v.status >= SENDING && v.status <= ACTIVE)) return false;
     if ((v.status == FAILED || v.status == PARTIAL_FAILURE) && v.purpose != ACTIVATE) return false;
+    return true;
+}
+
+// [V9]
+inline bool liveFits(const Version &v) {
+    bool sending = v.status == SENDING;
     bool must = v.status == PARTIAL_FAILURE || v.status == ACTIVE || (sending && v.purpose != ACTIVATE);
     bool may = must || sending;
-    if ((must && !v.live) || (v.live && !may)) return false;
+    return !(must && !v.live) && !(v.live && !may);
+}
+
+// [V10]
+inline bool confirmedFits(const Version &v) {
     if (v.live && v.purpose == ACTIVATE && v.confirmed.empty() && !(v.waiting.empty() && v.failed.empty())) return false;
     return true;
+}
+
+// [V6] to [V10] The broadcast.
+inline bool soundBroadcast(const Version &v) {
+    return setsApart(v) && retriesAwaited(v) && startFits(v) && waitingFits(v) && purposeFits(v) && liveFits(v) && confirmedFits(v);
 }
 
 inline bool sound(const Version &v) { return inRange(v) && soundSides(v) && soundBroadcast(v); }
@@ -205,16 +240,15 @@ inline bool soundCounts(const std::vector<Version> &used) {
     return true;
 }
 
+// [T2] By TN and then version number.
+inline bool rising(const Version &a, const Version &b) { return a.tn < b.tn || (a.tn == b.tn && a.number < b.number); }
+
 // [T1] [T2]
 inline bool sound(const Table &t) {
     if (t.used.size() + t.freeRows > 4096) return false;
     for (size_t i = 0; i < t.used.size(); i++) {
         if (!sound(t.used[i])) return false;
-        if (i > 0) {
-            const Version &a = t.used[i - 1], &b = t.used[i];
-            bool rising = a.tn < b.tn || (a.tn == b.tn && a.number < b.number);
-            if (!rising) return false;
-        }
+        if (i > 0 && !rising(t.used[i - 1], t.used[i])) return false;
     }
     return soundCounts(t.used);
 }

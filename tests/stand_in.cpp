@@ -4,7 +4,7 @@
 // stand-in says nothing about the library.
 #define MODEL stand_in
 #include "calls.h"
-#include "layouts.hpp"
+#include "faults.hpp"
 
 using namespace stand_in;
 
@@ -42,6 +42,18 @@ extern "C" lupinenblatt_answer lupinenblatt_table_check(const uint8_t *table, si
 extern "C" uint8_t lupinenblatt_books_check(const uint8_t *providers, size_t providersLength, const uint8_t *books, size_t booksLength) {
     std::optional<Books> b = unpackBooks(providers, providersLength, books, booksLength);
     return b && sound(*b) ? DONE : UNSOUND;
+}
+
+extern "C" lupinenblatt_fault lupinenblatt_table_fault(const uint8_t *table, size_t tableLength, const uint8_t *providers,
+                                                       size_t providersLength, const uint8_t *books, size_t booksLength) {
+    Fault f = tableFault(table, tableLength, providers, providersLength, books, booksLength);
+    return {f.clause, f.place, f.second};
+}
+
+extern "C" lupinenblatt_fault lupinenblatt_books_fault(const uint8_t *providers, size_t providersLength, const uint8_t *books,
+                                                       size_t booksLength) {
+    Fault f = booksFault(providers, providersLength, books, booksLength);
+    return {f.clause, f.place, f.second};
 }
 
 extern "C" lupinenblatt_ran lupinenblatt_run(uint8_t *table, size_t tableLength, const uint8_t *providers, size_t providersLength,
