@@ -24,5 +24,6 @@ pub mod Reordering
 pub mod Effects
 pub mod Entries
 pub mod Cells
+pub mod Stages
 pub mod Worked
 pub mod Theorems
