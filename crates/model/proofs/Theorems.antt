@@ -18,7 +18,7 @@ use Rattle.model.proofs.Reordering.{sane-of, bare-keeps, step-is, reord
 use Rattle.model.proofs.Effects.{modest-step, fine-step, other-rows}
 use Rattle.model.proofs.Stages.{passes, allPass, asks12}
 use Rattle.model.proofs.Worked.{examples, worked-examples, listing, the-listing, slips, slips-shut-out, waitingTable, inOrder, places, Instance, an-instance}
-use Rattle.model.proofs.Cells.{cells, by-place}
+use Rattle.model.proofs.Cells.{cells, entries, by-place}
 use Rattle.model.specs.declared.Version.{Version}
 use Rattle.model.specs.declared.Event.{Event}
 use Rattle.model.specs.declared.Message.{Message}
@@ -80,6 +80,10 @@ step-listing = the-listing
 -- The three slips, each with what happens instead. [L1, L2, L3]
 pub slips-refused : allPass slips ≡ true
 slips-refused = slips-shut-out
+
+-- The grid's table has 9 times 11 times 3 entries. [G2]
+pub grid-entries : length cells ≡ 297
+grid-entries = entries
 
 -- The grid's rule over all 297 entries of its table: status s, place j among the eleven kinds, standing w. [H6]
 pub grid-rule : (s j w : ℕ) → s < 9 → j < 11 → w < 3 → getD cells ((s * 11 + j) * 3 + w) 0 ≡ gridRule s (kindAt j) w
