@@ -4,4 +4,6 @@ pub mod Others
 pub mod Stepping
 pub mod Bytewise
 pub mod Keeping
+pub mod Exactly
+pub mod Mail
 pub mod Theorems

@@ -7,7 +7,7 @@ use Prim.Native.Nat.{ℕ, _+_, _*_, _/_, _%_, _-_, _<_, _≤_}
 use native.Mathlib.Omega.{arith}
 use borrow.Author.Tests.{lt-ltb, le-ltb, leb-true, lt-leb, ne-eqb}
 use lib.Dec.{eqb, eqb→eq, leb}
-use lib.ListN.{getD}
+use lib.ListN.{length, getD}
 use Rattle.model.specs.Standing.{gridRule, isGridKind, placeOf, kindAt, statusFor}
 use Rattle.model.specs.Basics.{among}
 use Rattle.model.proofs.Lists.{clash}
@@ -24,6 +24,10 @@ cells =
     7 ∷ 6 ∷ 6 ∷ 6 ∷ 7 ∷ 6 ∷ 7 ∷ 6 ∷ 6 ∷ 7 ∷ 7 ∷ 6 ∷ 7 ∷ 7 ∷ 6 ∷ 7 ∷ 7 ∷ 6 ∷ 0 ∷ 6 ∷ 6 ∷ 0 ∷ 6 ∷ 6 ∷ 6 ∷ 6 ∷ 7 ∷ 6 ∷ 6 ∷ 0 ∷ 6 ∷ 6 ∷ 7 ∷
     7 ∷ 6 ∷ 6 ∷ 6 ∷ 7 ∷ 6 ∷ 7 ∷ 6 ∷ 6 ∷ 7 ∷ 7 ∷ 6 ∷ 7 ∷ 7 ∷ 6 ∷ 7 ∷ 7 ∷ 6 ∷ 7 ∷ 6 ∷ 6 ∷ 7 ∷ 6 ∷ 6 ∷ 6 ∷ 6 ∷ 7 ∷ 6 ∷ 6 ∷ 7 ∷ 6 ∷ 6 ∷ 0 ∷
     7 ∷ 6 ∷ 6 ∷ 6 ∷ 7 ∷ 6 ∷ 7 ∷ 6 ∷ 6 ∷ 7 ∷ 7 ∷ 6 ∷ 7 ∷ 7 ∷ 6 ∷ 7 ∷ 7 ∷ 6 ∷ 7 ∷ 6 ∷ 6 ∷ 7 ∷ 6 ∷ 6 ∷ 6 ∷ 6 ∷ 7 ∷ 6 ∷ 6 ∷ 7 ∷ 6 ∷ 6 ∷ 0 ∷ []
+
+pub entries : length cells ≡ 297
+unfolding cells
+entries = refl
 
 -- the rule at entry i
 unfoldable ruleAt : ℕ → ℕ

@@ -22,7 +22,9 @@ pub mod SoundStep
 pub mod SoundTables
 pub mod Reordering
 pub mod Effects
+pub mod Owned
 pub mod Entries
 pub mod Cells
+pub mod Stages
 pub mod Worked
 pub mod Theorems

@@ -11,13 +11,14 @@ use Rattle.model.specs.Sound.{soundTable}
 use Rattle.model.specs.Outcomes.{isDone}
 use Rattle.model.specs.Standing.{gridRule, kindAt}
 use Rattle.model.specs.Step.{Setting, line, unsound, step, stepOf, after}
-use Rattle.model.specs.Exchange.{Demand3}
+use Rattle.model.specs.Exchange.{Demand3, Same}
 use Rattle.model.proofs.Lists.{clash}
 use Rattle.model.proofs.SoundTables.{says-table}
 use Rattle.model.proofs.Reordering.{sane-of, bare-keeps, step-is, reordering}
 use Rattle.model.proofs.Effects.{modest-step, fine-step, other-rows}
-use Rattle.model.proofs.Worked.{allPass, examples, worked-examples, passes, listing, the-listing, slips, slips-shut-out}
-use Rattle.model.proofs.Cells.{cells, by-place}
+use Rattle.model.proofs.Stages.{passes, allPass, asks12}
+use Rattle.model.proofs.Worked.{examples, worked-examples, listing, the-listing, slips, slips-shut-out, waitingTable, inOrder, places, Instance, an-instance}
+use Rattle.model.proofs.Cells.{cells, entries, by-place}
 use Rattle.model.specs.declared.Version.{Version}
 use Rattle.model.specs.declared.Event.{Event}
 use Rattle.model.specs.declared.Message.{Message}
@@ -60,6 +61,14 @@ rows-of-other-numbers = other-rows
 pub demand3 : Demand3
 demand3 = reordering
 
+-- Its premises can be met, with both of its cases: two answers for one version are exchanged, then an answer with a create of another number. Both
+-- orders are computed, and demand 3 says of them that they agree. [H4]
+pub demand3-instance : Instance
+demand3-instance = an-instance
+
+pub demand3-there : Same (stepOf (asks12 0 256)) places inOrder waitingTable
+demand3-there = demand3 (asks12 0 256) places inOrder waitingTable (demand3-instance .premises) (demand3-instance .may)
+
 -- P1 to P8. [H5]
 pub p1-to-p8 : allPass examples ≡ true
 p1-to-p8 = worked-examples
@@ -71,6 +80,10 @@ step-listing = the-listing
 -- The three slips, each with what happens instead. [L1, L2, L3]
 pub slips-refused : allPass slips ≡ true
 slips-refused = slips-shut-out
+
+-- The grid's table has 9 times 11 times 3 entries. [G2]
+pub grid-entries : length cells ≡ 297
+grid-entries = entries
 
 -- The grid's rule over all 297 entries of its table: status s, place j among the eleven kinds, standing w. [H6]
 pub grid-rule : (s j w : ℕ) → s < 9 → j < 11 → w < 3 → getD cells ((s * 11 + j) * 3 + w) 0 ≡ gridRule s (kindAt j) w

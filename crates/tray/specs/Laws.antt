@@ -13,8 +13,9 @@ use lib.Seq.{length-take-le, drop-drop, take-at, take-all, drop-append-add}
 use Rattle.octets.specs.Octets.{Bytes, be, digits, put}
 use Rattle.octets.specs.Laws.{put-after, length-digits, be-digits, digits-be, be-word}
 use Rattle.octets.specs.Fields.{join, fit, cut-join, join-cut, join-lt}
+use Rattle.model.specs.Basics.{All, none, with}
 use Rattle.model.specs.declared.Message.{Message}
-use Rattle.tray.specs.Tray.{headWidths, tailWidths, headFields, tailFields, headOf, tailOf, Small, messageWith, messageOf, messageBytes, messageFrom, readMessage, placesIn, putMessage, putAll, allBytes, trayAfter}
+use Rattle.tray.specs.Tray.{headWidths, tailWidths, headFields, tailFields, headOf, tailOf, Small, messageWith, messageOf, messageBytes, messageFrom, readMessage, Fits, placesIn, putMessage, putAll, allBytes, trayAfter, readPlaces}
 
 -- ---- a message put word by word
 
@@ -210,3 +211,26 @@ put-append (x ∷ xs) ys t place =
 pub tray-length : (ms : List Message) (t : List ℕ) → 24 * length ms ≤ length t → length (trayAfter ms t) ≡ length t
 unfolding trayAfter
 tray-length ms t h = simp (length-append, length-all, length-drop) (omega arith)
+
+-- The first places read back as the messages that they hold.
+read-on : (p : List ℕ) (place : ℕ) (ms : List Message) (q : List ℕ) → length p ≡ 24 * place → All Fits ms → readPlaces (p ++ allBytes ms ++ q) place (length ms) ≡ ms
+unfolding readPlaces allBytes
+read-on p place [] q h none = refl
+read-on p place (m ∷ ms) q h (with f fs) =
+    ap₂ (λ (x : Message) (l : List Message). x ∷ l)
+    (ap₂ messageFrom (split p (messageBytes m) (allBytes ms) q) (sym h) ∙ message-back m (f .small) (f .number) (f .failed) p (allBytes ms ++ q))
+    (ap (λ (l : List ℕ). readPlaces l (suc place) (length ms)) (joins p (messageBytes m) (allBytes ms) q)
+    ∙ read-on (p ++ messageBytes m) (suc place) ms q (length-append p (messageBytes m) ∙ ap₂ (λ (x y : ℕ). x + y) h (length-message m) ∙ next place) fs)
+  where
+    split : (a b c d : List ℕ) → a ++ (b ++ c) ++ d ≡ a ++ b ++ (c ++ d)
+    split a b c d = simp append-assoc
+
+    joins : (a b c d : List ℕ) → a ++ (b ++ c) ++ d ≡ (a ++ b) ++ c ++ d
+    joins a b c d = simp append-assoc
+
+    next : (k : ℕ) → 24 * k + 24 ≡ 24 * suc k
+    next k = omega arith
+
+pub tray-reads : (ms : List Message) (t : List ℕ) → All Fits ms → readPlaces (putAll t 0 ms) 0 (length ms) ≡ ms
+unfolding trayAfter
+tray-reads ms t fs = ap (λ (l : List ℕ). readPlaces l 0 (length ms)) (tray-of ms t) ∙ read-on [] 0 ms (drop (24 * length ms) t) refl fs

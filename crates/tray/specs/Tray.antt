@@ -1,6 +1,6 @@
 -- Messages as bytes (docs/LAYOUTS.md), and the tray. [Y1, Y8]
 -- Assumes nothing.
-use Prim.Native.Nat.{ℕ, suc, _+_, _*_, _/_, _^_, _<_}
+use Prim.Native.Nat.{ℕ, zero, suc, _+_, _*_, _/_, _^_, _<_}
 use mathlib.Core.Path.{_≡_}
 use mathlib.Core.Bool.{true, cond}
 use mathlib.Core.List.{List, [], _∷_, _++_, map}
@@ -41,6 +41,12 @@ pub record Small (m : Message) : Type 0 where
   pub provider : m .provider < 64
   pub sort : m .sort < 16
   pub lrn : m .lrn .0 < 2 ^ 34
+
+-- every field of the message has room in its bits
+pub record Fits (m : Message) : Type 0 where
+  pub small : Small m
+  pub number : m .id .number < 2 ^ 16
+  pub failed : m .failed < 2 ^ 64
 
 -- the message with these fields
 abbrev pub messageWith : List ℕ → List ℕ → ℕ → Message
@@ -96,6 +102,11 @@ allBytes (m ∷ ms) = messageBytes m ++ allBytes ms
 -- The first n places hold the messages, the rest stays. [Y8]
 unfoldable pub trayAfter : List Message → List ℕ → List ℕ
 trayAfter ms t = allBytes ms ++ drop (messageSize * length ms) t
+
+-- the messages that so many places hold, from a place on
+unfoldable pub readPlaces : List ℕ → ℕ → ℕ → List Message
+readPlaces t place zero = []
+readPlaces t place (suc n) = messageFrom t (messageSize * place) ∷ readPlaces t (suc place) n
 
 -- ---- downloads
 
