@@ -70,14 +70,11 @@ fn share(n: u64, whole: u64) -> u64 {
 
 // So many events are done, of the whole if that is known.
 fn tell(n: u64, whole: u64) {
-    names::put_number(n);
-    names::put(b" events");
     if whole > 0 {
-        names::put(b", ");
-        names::put_number(share(n, whole));
-        names::put(b" percent");
+        names::put_with(b"# events, # percent\n", n, share(n, whole));
+    } else {
+        names::put_with(b"# events\n", n, 0);
     }
-    names::put(b"\n");
 }
 
 // The events from a place on, to the place behind, are done: a line where a multiple of PROGRESS is among them.
@@ -182,11 +179,11 @@ fn whole(
 
 // The last bytes are no whole record.
 fn say_part(bytes: u64, outcome: u64) {
-    names::put(b"replay: the last ");
-    names::put_number(bytes);
-    names::put(b" bytes are no whole record: taken as one more event, refused with ");
-    names::put_number(outcome);
-    names::put(b"\n");
+    names::put_with(
+        b"replay: the last # bytes are no whole record: taken as one more event, refused with #\n",
+        bytes,
+        outcome,
+    );
 }
 
 // A part of a record at the end is an event too, and finds the 64 places that a step asks for.

@@ -103,19 +103,11 @@ fn bytes_in(size: i64) -> u64 {
     size as u64
 }
 
-fn say_beyond(from: u64, whole: u64) {
-    names::put(b"replay: EVENTS: no place ");
-    names::put_number(from);
-    names::put(b" in ");
-    names::put_number(whole);
-    names::put(b" events\n");
-}
-
 // Stands before the event at place `from`, of so many; it may be the place behind the last. Whether it does; if not, says why.
 fn sought(fd: i32, from: u64, whole: u64) -> bool {
     let before = std::num::wrapping_sub_u64(from, 1);
     if before > whole {
-        say_beyond(from, whole);
+        names::put_with(b"replay: EVENTS: no place # in # events\n", from, whole);
         return false;
     }
     if before > MOST_EVENTS {

@@ -112,39 +112,29 @@ fn books_fit(providers: &[u8], books: &[u8]) -> bool {
     kept
 }
 
-// How many rows a sound table has used, of how many.
-fn put_used(table: &[u8], between: &[u8]) {
+// How many rows a table has used, and of how many, in a text with a '#' for each.
+fn say_rows(text: &[u8], table: &[u8]) {
+    let rows = (table.len() / ROW) as u64;
     let verdict = scan::verdict(table);
     match verdict {
-        Soundness::Sound { used } => names::put_number(used as u64),
-        Soundness::Unsound => names::put(b"none"),
+        Soundness::Sound { used } => names::put_with(text, used as u64, rows),
+        Soundness::Unsound => {}
     }
-    names::put(between);
-    names::put_number((table.len() / ROW) as u64);
-}
-
-fn say_sound(table: &[u8]) {
-    put_used(table, b" of ");
-    names::put(b" rows used, sound\n");
-}
-
-// What has become of the events and of the table.
-fn say_summary(tally: &[u64; 16], table: &[u8]) {
-    summary::say(tally);
-    names::put(b"rows used: ");
-    put_used(table, b" of ");
-    names::put(b"\n");
 }
 
 // The outputs get their names where all events up to the place behind the last are replayed, and a last line says so.
 fn finish(from: u64, behind: u64, o: Outputs, tally: &[u64; 16], table: &[u8]) {
     let well = behind > 0 && parts::all_settled(o, table);
     if well {
-        say_summary(tally, table);
+        summary::say(tally);
+        say_rows(b"rows used: # of #\n", table);
     }
     if parts::end_all(o, well) {
-        names::put_number(std::num::wrapping_sub_u64(behind, from));
-        names::put(b" events replayed\n");
+        names::put_with(
+            b"# events replayed\n",
+            std::num::wrapping_sub_u64(behind, from),
+            0,
+        );
     }
 }
 
@@ -176,7 +166,7 @@ fn begin(table: &mut [u8], providers: &[u8], books: &[u8], job: Job) {
         return;
     }
     if job.check {
-        say_sound(table);
+        say_rows(b"# of # rows used, sound\n", table);
     } else {
         replay(table, providers, books, job);
     }
@@ -272,11 +262,15 @@ fn from() -> u64 {
     place_in(&text[..n])
 }
 
+fn say_usage() {
+    names::say(
+        b"usage: replay [--from N] TABLE PROVIDERS BOOKS R EVENTS OUTCOMES MESSAGES TABLE-AFTER, or replay --check TABLE PROVIDERS BOOKS",
+    );
+}
+
 fn main() {
     if !understood() {
-        names::say(
-            b"usage: replay [--from N] TABLE PROVIDERS BOOKS R EVENTS OUTCOMES MESSAGES TABLE-AFTER, or replay --check TABLE PROVIDERS BOOKS",
-        );
+        say_usage();
         return;
     }
     if os::arg_count() == CHECK {

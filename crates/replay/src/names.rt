@@ -75,8 +75,45 @@ pub fn put(text: &[u8]) {
     io::write_all(STDERR_FILENO, text);
 }
 
-pub fn put_number(n: u64) {
-    io::print_decimal(STDERR_FILENO, n);
+// A byte, or the next number where it is '#'; the number for the '#' behind it.
+fn put_filled(b: u8, next: u64, last: u64) -> u64 {
+    if b == b'#' {
+        io::print_decimal(STDERR_FILENO, next);
+        return last;
+    }
+    put(&[b]);
+    next
+}
+
+// A text with a number for each '#': the first for the first, the last for any other.
+pub fn put_with(text: &[u8], first: u64, last: u64) {
+    let mut next = first;
+    let mut i: usize = 0;
+    while i < text.len() {
+        next = put_filled(text[i], next, last);
+        i += 1;
+    }
+}
+
+// A byte of the line that is looked for; the line of the byte behind it.
+fn put_found(b: u8, line: usize, wanted: usize) -> usize {
+    if b == b'\n' {
+        return std::num::wrapping_add_usize(line, 1);
+    }
+    if line == wanted {
+        put(&[b]);
+    }
+    line
+}
+
+// The line at a place of a text, from 0, without its end.
+pub fn put_line(text: &[u8], place: usize) {
+    let mut line: usize = 0;
+    let mut i: usize = 0;
+    while i < text.len() {
+        line = put_found(text[i], line, place);
+        i += 1;
+    }
 }
 
 pub fn say(text: &[u8]) {
@@ -106,26 +143,24 @@ pub fn fail(name: &[u8]) {
     os::fail(name);
 }
 
-// A file could not be read or written: why.
-pub fn fail_of(place: usize) {
-    match place {
-        EVENTS => fail(b"EVENTS"),
-        OUTCOMES => fail(b"OUTCOMES"),
-        MESSAGES => fail(b"MESSAGES"),
-        _ => fail(b"TABLE-AFTER"),
-    }
+// An argument by its title.
+fn put_title(place: usize) {
+    put_line(
+        b"replay\nTABLE\nPROVIDERS\nBOOKS\nR\nEVENTS\nOUTCOMES\nMESSAGES\nTABLE-AFTER",
+        place,
+    );
 }
 
-fn put_title(place: usize) {
-    match place {
-        TABLE => put(b"TABLE"),
-        PROVIDERS => put(b"PROVIDERS"),
-        BOOKS => put(b"BOOKS"),
-        EVENTS => put(b"EVENTS"),
-        OUTCOMES => put(b"OUTCOMES"),
-        MESSAGES => put(b"MESSAGES"),
-        _ => put(b"TABLE-AFTER"),
-    }
+fn say_title(place: usize, text: &[u8]) {
+    put(b"replay: ");
+    put_title(place);
+    put(text);
+}
+
+// A file could not be read or written: why.
+pub fn fail_of(place: usize) {
+    say_title(place, b"");
+    os::fail(b"");
 }
 
 pub fn is_name(place: usize, text: &[u8]) -> bool {
@@ -182,9 +217,7 @@ fn named(out: usize) -> bool {
     let n = name(out, &mut path);
     let fits = n > 0 && n <= MOST_NAME;
     if !fits {
-        put(b"replay: ");
-        put_title(out);
-        put(b": no name, or too long a name\n");
+        say_title(out, b": no name, or too long a name\n");
     }
     fits
 }

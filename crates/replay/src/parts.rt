@@ -16,30 +16,35 @@ pub struct Outputs {
 
 // A part could not be made: why.
 fn say_unmade(part: &[u8]) {
-    if os::errno() != libc::EEXIST {
+    if os::errno() == libc::EEXIST {
+        names::put(b"replay: ");
+        names::put(part);
+        names::put(b": is there: another replay runs, or one was killed and it may be removed\n");
+    } else {
         names::fail(part);
-        return;
     }
-    names::put(b"replay: ");
-    names::put(part);
-    names::put(b": is there: another replay runs, or one was killed and it may be removed\n");
 }
 
-// Makes an output's part; -1 where it cannot be had, and says why. The descriptors up to standard error are for no file.
+// A part has a descriptor that is for no file, since standard input, output or error is closed: it is removed.
+fn give_back(part: &[u8]) {
+    os::unlink(part);
+    names::say(b"standard input, output or error is closed");
+}
+
+// Makes an output's part; -1 where it cannot be had, and says why.
 fn make(place: usize) -> i32 {
     let mut part = io::buffer();
     let n = names::part(place, &mut part);
     let fd = os::create(&part[..n]);
+    if fd > STDERR_FILENO {
+        return fd;
+    }
     if fd < 0 {
         say_unmade(&part[..n]);
-        return -1;
+    } else {
+        give_back(&part[..n]);
     }
-    if fd <= STDERR_FILENO {
-        names::say(b"standard input, output or error is closed");
-        os::unlink(&part[..n]);
-        return -1;
-    }
-    fd
+    -1
 }
 
 fn make_outcomes() -> i32 {

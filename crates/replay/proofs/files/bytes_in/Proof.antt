@@ -26,8 +26,7 @@ cast-result : tie.Need-cast-result
 cast-result c =
     let size = c .before .args .size in
     let known = c .before .fits .size in
-    let read = sym (toZ-ofZ w64 size known) in
-    (
+    let read = sym (toZ-ofZ w64 size known) in (
       not-below (toZ w64 (ofZ w64 size)) (c .if1 .left),
       subst (λ (z : ℤ). Fits w64 (natAbs z)) read (record { fits = lt-of-le-of-lt (natAbs-le size (known .sfits)) (lit< tt) }),
     )

@@ -1,5 +1,6 @@
 -- The measure is how many numbers are left; nothing has to hold from turn to turn.
 -- Assumes nothing.
+use borrow.Author.Needs.{needs}
 use Prim.Native.Nat.{_-_}
 use native.Mathlib.Omega.{arith}
 use Rattle.replay.proofs.summary.say.Statement.{statement}
@@ -11,11 +12,14 @@ Inv-loop tally outcome₀ outcome = Unit {0}
 abbrev μ-loop : tie.MeasureT-loop
 μ-loop tally outcome₀ outcome = 16 - outcome
 
+slice-aggregate-put-with : tie.Need-slice-aggregate-put-with Inv-loop μ-loop
+slice-aggregate-put-with c = search needs
+
 counted-requires : tie.Need-counted-requires Inv-loop μ-loop
 counted-requires c κs = tt
 
-say-done-requires : tie.Need-say-done-requires Inv-loop μ-loop
-say-done-requires c κs = tt
+put-with-requires : tie.Need-put-with-requires Inv-loop μ-loop
+put-with-requires c κs = tt
 
 loop-holds : tie.Need-loop-holds Inv-loop μ-loop
 loop-holds c = tt
@@ -44,8 +48,9 @@ say-spec =
     (tie.spec
     Inv-loop
     μ-loop
+    slice-aggregate-put-with
     counted-requires
-    say-done-requires
+    put-with-requires
     loop-holds
     counted-requires-2
     say-refused-requires
