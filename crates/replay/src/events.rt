@@ -68,25 +68,22 @@ fn share(n: u64, whole: u64) -> u64 {
     n * 100 / whole
 }
 
-// So many events are done, of the whole if that is known.
-fn tell(n: u64, whole: u64) {
+// The events from a place on, to the place behind, are done: a line where a multiple of PROGRESS is among them, with its share of the
+// whole where that is known.
+fn tell(place: u64, behind: u64, whole: u64) {
+    let n = std::num::wrapping_sub_u64(behind, 1) / PROGRESS;
+    if n == std::num::wrapping_sub_u64(place, 1) / PROGRESS {
+        return;
+    }
+    let done = n * PROGRESS;
     if whole > 0 {
-        names::put_with(b"# events, # percent\n", n, share(n, whole));
+        names::put_with(b"# events, # percent\n", done, share(done, whole));
     } else {
-        names::put_with(b"# events\n", n, 0);
+        names::put_with(b"# events\n", done, 0);
     }
 }
 
-// The events from a place on, to the place behind, are done: a line where a multiple of PROGRESS is among them.
-fn tell_progress(place: u64, behind: u64, whole: u64) {
-    let before = std::num::wrapping_sub_u64(place, 1) / PROGRESS;
-    let now = std::num::wrapping_sub_u64(behind, 1) / PROGRESS;
-    if behind > 0 && now > before {
-        tell(now * PROGRESS, whole);
-    }
-}
-
-fn wide(b: u8) -> u64 {
+pub fn wide(b: u8) -> u64 {
     b as u64
 }
 
@@ -274,7 +271,7 @@ pub fn each(
         if behind == place {
             return reached(place, s.input);
         }
-        tell_progress(place, behind, s.whole);
+        tell(place, behind, s.whole);
         place = behind;
         turns -= 1;
     }

@@ -4,7 +4,6 @@ use crate::names::BOOKS;
 use crate::names::EVENTS;
 use crate::names::PROVIDERS;
 use crate::names::TABLE;
-use libc::SEEK_END;
 use libc::SEEK_SET;
 
 // No number of bytes that a file has.
@@ -40,7 +39,7 @@ fn open_to_read(path: &[u8]) -> i32 {
 }
 
 // Opens what an argument names; less than 0 where it cannot be had, and says why.
-fn open(place: usize) -> i32 {
+pub fn open(place: usize) -> i32 {
     let mut path = io::buffer();
     let n = names::name(place, &mut path);
     if os::errno() != 0 {
@@ -77,67 +76,33 @@ pub fn load(place: usize, buf: &mut [u8]) -> usize {
     if whole { n } else { NONE }
 }
 
-// The events, and how many there are: 0 where that is not known, as of a pipe. The descriptor is less than 0 where they cannot be had.
-pub struct Input {
-    pub fd: i32,
-    pub whole: u64,
-}
-
-const NO_INPUT: Input = Input { fd: -1, whole: 0 };
-
-// How many events so many bytes are; a part of a record at the end is one more.
-fn events_in(size: u64) -> u64 {
-    let records = size / RECORD;
-    if size % RECORD == 0 {
-        records
-    } else {
-        std::num::wrapping_add_u64(records, 1)
-    }
-}
-
-// A number of bytes, of which there are not fewer than none.
-fn bytes_in(size: i64) -> u64 {
+// How many events so many bytes are; a part of a record at the end is one more. None where the number of bytes is not known.
+pub fn events_in(size: i64) -> u64 {
     if size < 0 {
         return 0;
     }
-    size as u64
+    let bytes = size as u64;
+    let records = bytes / RECORD;
+    if bytes % RECORD == 0 {
+        return records;
+    }
+    std::num::wrapping_add_u64(records, 1)
 }
 
-// Stands before the event at place `from`, of so many; it may be the place behind the last. Whether it does; if not, says why.
-fn sought(fd: i32, from: u64, whole: u64) -> bool {
+// Stands before the event at place `from`, of the whole; it may be the place behind the last. Whether it does; if not, says why. What
+// cannot be sought in, as a pipe, has no known whole and is read from its start alone.
+pub fn sought(fd: i32, from: u64, whole: u64) -> bool {
     let before = std::num::wrapping_sub_u64(from, 1);
+    if before <= MOST_EVENTS {
+        let at = before * RECORD;
+        if libc::lseek(fd, at as i64, SEEK_SET) < 0 && (before > 0 || whole > 0) {
+            names::fail_of(EVENTS);
+            return false;
+        }
+    }
     if before > whole {
         names::put_with(b"replay: EVENTS: no place # in # events\n", from, whole);
         return false;
     }
-    if before > MOST_EVENTS {
-        return false;
-    }
-    let at = before * RECORD;
-    let stands = libc::lseek(fd, at as i64, SEEK_SET) >= 0;
-    if !stands {
-        names::fail_of(EVENTS);
-    }
-    stands
-}
-
-// Opens the events, to be read from the event at place `from` on. What cannot be sought in, as a pipe, is read from its start alone.
-pub fn open_events(from: u64) -> Input {
-    let fd = open(EVENTS);
-    if fd < 0 {
-        return NO_INPUT;
-    }
-    let size = libc::lseek(fd, 0, SEEK_END);
-    if size < 0 {
-        if from == 1 {
-            return Input { fd, whole: 0 };
-        }
-        names::fail_of(EVENTS);
-        return NO_INPUT;
-    }
-    let whole = events_in(bytes_in(size));
-    if !sought(fd, from, whole) {
-        return NO_INPUT;
-    }
-    Input { fd, whole }
+    true
 }

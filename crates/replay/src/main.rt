@@ -7,8 +7,10 @@ mod parts;
 mod summary;
 
 use events::Streams;
+use libc::SEEK_END;
 use names::BOOKS;
 use names::CHECK;
+use names::EVENTS;
 use names::PROVIDERS;
 use names::REPLAY;
 use names::REPLAY_FROM;
@@ -26,13 +28,6 @@ const ROW: usize = 80;
 const BOOK_BYTES: usize = 8712;
 // The largest number to which a digit can be put.
 const MOST_TENTH: u64 = 1_844_674_407_370_955_160;
-
-// What is asked for: a check alone, or a replay with R from the event at a place on, counted from 1.
-struct Job {
-    check: bool,
-    most: u8,
-    from: u64,
-}
 
 // A digit's number; more than 9 for any other byte.
 fn number(digit: u8) -> u8 {
@@ -139,9 +134,13 @@ fn finish(from: u64, behind: u64, o: Outputs, tally: &[u64; 16], table: &[u8]) {
 }
 
 // Replays from an event's place on.
-fn replay(table: &mut [u8], providers: &[u8], books: &[u8], job: Job) {
-    let input = files::open_events(job.from);
-    if input.fd < 0 {
+fn replay(table: &mut [u8], providers: &[u8], books: &[u8], most: u8, from: u64) {
+    let input = files::open(EVENTS);
+    if input < 0 {
+        return;
+    }
+    let whole = files::events_in(libc::lseek(input, 0, SEEK_END));
+    if !files::sought(input, from, whole) {
         return;
     }
     let o = parts::make_all();
@@ -149,26 +148,26 @@ fn replay(table: &mut [u8], providers: &[u8], books: &[u8], job: Job) {
         return;
     }
     let s = Streams {
-        input: input.fd,
-        whole: input.whole,
+        input,
+        whole,
         outcomes: o.outcomes,
         messages: o.messages,
     };
     let mut tally = [0u64; 16];
-    let behind = events::each(job.from, s, table, providers, books, job.most, &mut tally);
-    finish(job.from, behind, o, &tally, table);
+    let behind = events::each(from, s, table, providers, books, most, &mut tally);
+    finish(from, behind, o, &tally, table);
 }
 
-// Checks what is lent to each event before any file is written, and does what is asked for.
-fn begin(table: &mut [u8], providers: &[u8], books: &[u8], job: Job) {
+// Checks what is lent to each event before any file is written, and replays from an event's place on; from 0, it checks alone.
+fn begin(table: &mut [u8], providers: &[u8], books: &[u8], most: u8, from: u64) {
     let sound = table_fits(table) & books_fit(providers, books);
     if !sound {
         return;
     }
-    if job.check {
+    if from == 0 {
         say_rows(b"# of # rows used, sound\n", table);
     } else {
-        replay(table, providers, books, job);
+        replay(table, providers, books, most, from);
     }
 }
 
@@ -180,7 +179,7 @@ fn free_rows() -> [u8; 327680]
 }
 
 // Reads what is lent to each event, and goes on if all of it was read.
-fn run(job: Job) {
+fn run(most: u8, from: u64) {
     let mut table = free_rows();
     let mut providers = [0u8; 63];
     let mut books = [0u8; 8712];
@@ -196,7 +195,7 @@ fn run(job: Job) {
     if b > 8712 {
         return;
     }
-    begin(&mut table[..t], &providers[..p], &books[..b], job);
+    begin(&mut table[..t], &providers[..p], &books[..b], most, from);
 }
 
 // A replay, where R is one and the outputs are files of their own.
@@ -207,27 +206,8 @@ fn run_from(from: u64) {
         return;
     }
     if names::all_own() {
-        run(Job {
-            check: false,
-            most,
-            from,
-        });
+        run(most, from);
     }
-}
-
-fn run_check() {
-    run(Job {
-        check: true,
-        most: 0,
-        from: 1,
-    });
-}
-
-fn is_option(word: &[u8]) -> bool {
-    if word.len() < 2 {
-        return false;
-    }
-    word[0] == b'-' && word[1] == b'-'
 }
 
 // The first word.
@@ -241,7 +221,7 @@ fn is_first(word: &[u8]) -> bool {
 fn understood() -> bool {
     let mut table = io::buffer();
     let n = names::name(TABLE, &mut table);
-    if is_option(&table[..n]) {
+    if n > 1 && table[0] == b'-' && table[1] == b'-' {
         return false;
     }
     match os::arg_count() {
@@ -262,19 +242,15 @@ fn from() -> u64 {
     place_in(&text[..n])
 }
 
-fn say_usage() {
-    names::say(
-        b"usage: replay [--from N] TABLE PROVIDERS BOOKS R EVENTS OUTCOMES MESSAGES TABLE-AFTER, or replay --check TABLE PROVIDERS BOOKS",
-    );
-}
-
 fn main() {
     if !understood() {
-        say_usage();
+        names::say(
+            b"usage: replay [--from N] TABLE PROVIDERS BOOKS R EVENTS OUTCOMES MESSAGES TABLE-AFTER, or replay --check TABLE PROVIDERS BOOKS",
+        );
         return;
     }
     if os::arg_count() == CHECK {
-        run_check();
+        run(0, 0);
         return;
     }
     let place = from();

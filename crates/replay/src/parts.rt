@@ -25,13 +25,7 @@ fn say_unmade(part: &[u8]) {
     }
 }
 
-// A part has a descriptor that is for no file, since standard input, output or error is closed: it is removed.
-fn give_back(part: &[u8]) {
-    os::unlink(part);
-    names::say(b"standard input, output or error is closed");
-}
-
-// Makes an output's part; -1 where it cannot be had, and says why.
+// Makes an output's part; -1 where it cannot be had, and says why. A descriptor up to standard error's is for no file.
 fn make(place: usize) -> i32 {
     let mut part = io::buffer();
     let n = names::part(place, &mut part);
@@ -41,23 +35,20 @@ fn make(place: usize) -> i32 {
     }
     if fd < 0 {
         say_unmade(&part[..n]);
-    } else {
-        give_back(&part[..n]);
+        return -1;
     }
+    os::unlink(&part[..n]);
+    names::say(b"standard input, output or error is closed");
     -1
-}
-
-fn make_outcomes() -> i32 {
-    if names::is_stream() {
-        STDOUT_FILENO
-    } else {
-        make(OUTCOMES)
-    }
 }
 
 // Makes the parts, in this order, up to the first that cannot be made; `after` is less than 0 where one is missing, and none is left then.
 pub fn make_all() -> Outputs {
-    let outcomes = make_outcomes();
+    let outcomes = if names::is_stream() {
+        STDOUT_FILENO
+    } else {
+        make(OUTCOMES)
+    };
     let mut messages = -1;
     let mut after = -1;
     if outcomes >= 0 {

@@ -1,4 +1,5 @@
 // How many events had each outcome, and that in words.
+use crate::events;
 use crate::names;
 
 const NUMBERS: usize = 16;
@@ -17,16 +18,12 @@ pub fn count(tally: &mut [u64; 16], outcome: u64) {
     }
 }
 
-fn wide(b: u8) -> u64 {
-    b as u64
-}
-
 // The outcome of the i-th event of a run, in the first of two bytes.
 fn outcome_at(answers: &[u8], i: usize) -> u64 {
     if i >= answers.len() / 2 {
         return 0;
     }
-    wide(answers[2 * i])
+    events::wide(answers[2 * i])
 }
 
 // The events of a run.

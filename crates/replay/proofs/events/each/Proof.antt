@@ -40,8 +40,8 @@ same-length-2 c =
 returns-2 : tie.Need-returns-2 Inv-loop μ-loop
 returns-2 c = tt
 
-tell-progress-requires : tie.Need-tell-progress-requires Inv-loop μ-loop
-tell-progress-requires c κs = tt
+tell-requires : tie.Need-tell-requires Inv-loop μ-loop
+tell-requires c κs = tt
 
 sub-turns : tie.Need-sub-turns Inv-loop μ-loop
 sub-turns c = omega arith
@@ -74,7 +74,7 @@ each-spec =
     reached-requires
     same-length-2
     returns-2
-    tell-progress-requires
+    tell-requires
     sub-turns
     loop-less
     loop-again

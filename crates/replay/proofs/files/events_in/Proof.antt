@@ -12,8 +12,8 @@ use lib.Signed.{ltZ, nonNeg, natAbs-le}
 use mir.Syntax.{w64}
 use mir.Val.{Fits, toZ, ofZ}
 use mir.ValLaws.{toZ-ofZ}
-use Rattle.replay.proofs.files.bytes_in.Statement.{statement}
-use Rattle.replay.proofs.files.bytes_in.Tie as tie
+use Rattle.replay.proofs.files.events_in.Statement.{statement}
+use Rattle.replay.proofs.files.events_in.Tie as tie
 
 not-below : (z : ℤ) → ltZ z (pos 0) ≡ false → T (nonNeg z)
 not-below (pos n) e = tt
@@ -22,8 +22,8 @@ not-below (negsuc n) e = let z : _≡_ {A = ℕ} 0 1 = cc in omega arith
 returns : tie.Need-returns
 returns c = search needs
 
-cast-result : tie.Need-cast-result
-cast-result c =
+cast-bytes : tie.Need-cast-bytes
+cast-bytes c =
     let size = c .before .args .size in
     let known = c .before .fits .size in
     let read = sym (toZ-ofZ w64 size known) in (
@@ -34,5 +34,11 @@ cast-result c =
 returns-2 : tie.Need-returns-2
 returns-2 c = search needs
 
-pub bytes-in-spec : {M : Type 1} → statement M
-bytes-in-spec = tie.close (tie.spec returns cast-result returns-2)
+returns-3 : tie.Need-returns-3
+returns-3 c = search needs
+
+wrapping-add-u64-requires : tie.Need-wrapping-add-u64-requires
+wrapping-add-u64-requires c κs = search needs
+
+pub events-in-spec : {M : Type 1} → statement M
+events-in-spec = tie.close (tie.spec returns cast-bytes returns-2 wrapping-add-u64-requires returns-3)
