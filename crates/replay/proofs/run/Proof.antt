@@ -8,34 +8,34 @@ use Rattle.replay.proofs.run.Statement.{statement}
 use Rattle.replay.proofs.run.Tie as tie
 
 free-rows-requires : tie.Need-free-rows-requires
-free-rows-requires c κs = search needs
+free-rows-requires c κs = tt
 
 slice-aggregate-load : tie.Need-slice-aggregate-load
 slice-aggregate-load c = search needs
 
 load-requires : tie.Need-load-requires
-load-requires c κs = search needs
+load-requires c κs = tt
 
 slice-aggregate-load-2 : tie.Need-slice-aggregate-load-2
 slice-aggregate-load-2 c = search needs
 
 load-requires-2 : tie.Need-load-requires-2
-load-requires-2 c κs = search needs
+load-requires-2 c κs = tt
 
 slice-aggregate-load-3 : tie.Need-slice-aggregate-load-3
 slice-aggregate-load-3 c = search needs
 
 load-requires-3 : tie.Need-load-requires-3
-load-requires-3 c κs = search needs
+load-requires-3 c κs = tt
 
 returns : tie.Need-returns
-returns c = search needs
+returns c = tt
 
 returns-2 : tie.Need-returns-2
-returns-2 c = search needs
+returns-2 c = tt
 
 returns-3 : tie.Need-returns-3
-returns-3 c = search needs
+returns-3 c = tt
 
 array-borrow-prefix-table : tie.Need-array-borrow-prefix-table
 array-borrow-prefix-table c = search needs
@@ -56,10 +56,10 @@ slice-aggregate-begin-3 : tie.Need-slice-aggregate-begin-3
 slice-aggregate-begin-3 c = sym (length-take-le _ _ (omega arith))
 
 begin-requires : tie.Need-begin-requires
-begin-requires c κs = search needs
+begin-requires c κs = tt
 
 returns-4 : tie.Need-returns-4
-returns-4 c = search needs
+returns-4 c = tt
 
 pub run-spec : {M : Type 1} → statement M
 run-spec =
