@@ -245,7 +245,8 @@ fn from() -> u64 {
 fn main() {
     if !understood() {
         names::say(
-            b"usage: replay [--from N] TABLE PROVIDERS BOOKS R EVENTS OUTCOMES MESSAGES TABLE-AFTER, or replay --check TABLE PROVIDERS BOOKS",
+            b"usage: replay [--from N] TABLE PROVIDERS BOOKS R EVENTS OUTCOMES MESSAGES TABLE-AFTER, \
+            or replay --check TABLE PROVIDERS BOOKS",
         );
         return;
     }

@@ -195,7 +195,7 @@ fn say_same(out: usize, other: usize, text: &[u8]) {
     put(b"\n");
 }
 
-// Whether an output is another file than what the other argument names, and its part too; if not, says so. The table after may be the table.
+// Whether an output has another name than the other argument, and its part too; if not, says so. The table after may be the table.
 fn apart(out: usize, other: usize) -> bool {
     if out == other || other == OUTCOMES && is_stream() {
         return true;
