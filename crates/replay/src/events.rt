@@ -1,12 +1,12 @@
 // The events of the input, a thousand at a time: their lines, their messages, and the place behind the last, counted from 1. A place of 0
 // says that a file could not be read or written.
 use crate::files;
-use crate::files::EVENTS;
-use crate::files::MESSAGES;
-use crate::files::OUTCOMES;
-use crate::files::Streams;
+use crate::names;
+use crate::names::EVENTS;
+use crate::names::MESSAGES;
+use crate::names::OUTCOMES;
+use crate::summary;
 use batch::Ran;
-use libc::STDERR_FILENO;
 ghost use mathlib.Core.Path.{_≡_};
 ghost use lib.ListN.{length};
 
@@ -19,6 +19,16 @@ const TRAY_PLACES: u64 = 65536;
 const PROGRESS: u64 = 10_000;
 
 const MOST_EVENTS: u64 = 18_446_744_073_709_551_615;
+// The most of which a hundredfold is a number of 64 bits.
+const MOST_SHARED: u64 = 184_467_440_737_095_516;
+
+// The events, how many there are (0: not known), and what is written while they are replayed.
+pub struct Streams {
+    pub input: i32,
+    pub whole: u64,
+    pub outcomes: i32,
+    pub messages: i32,
+}
 
 fn put_next(fd: i32, n: u64) -> bool {
     let spaced = io::write_all(fd, b" ");
@@ -47,14 +57,33 @@ fn put_messages(fd: i32, tray: &[u8], count: u64) -> bool {
     io::write_all(fd, &tray[..n])
 }
 
-fn tell(place: u64) {
-    if place % PROGRESS == 0 {
-        io::print_decimal(STDERR_FILENO, place);
-        io::write_all(STDERR_FILENO, b" events\n");
+// How many hundredths n of the whole are.
+fn share(n: u64, whole: u64) -> u64 {
+    if n >= whole {
+        return 100;
+    }
+    if n > MOST_SHARED {
+        return 100;
+    }
+    n * 100 / whole
+}
+
+// The events from a place on, to the place behind, are done: a line where a multiple of PROGRESS is among them, with its share of the
+// whole where that is known.
+fn tell(place: u64, behind: u64, whole: u64) {
+    let n = std::num::wrapping_sub_u64(behind, 1) / PROGRESS;
+    if n == std::num::wrapping_sub_u64(place, 1) / PROGRESS {
+        return;
+    }
+    let done = n * PROGRESS;
+    if whole > 0 {
+        names::put_with(b"# events, # percent\n", done, share(done, whole));
+    } else {
+        names::put_with(b"# events\n", done, 0);
     }
 }
 
-fn wide(b: u8) -> u64 {
+pub fn wide(b: u8) -> u64 {
     b as u64
 }
 
@@ -64,10 +93,9 @@ fn put_event(fd: i32, place: u64, outcome: u64, count: u64) -> u64 {
         return 0;
     }
     if !put_line(fd, place, outcome, count) {
-        files::fail_output(OUTCOMES);
+        names::fail_of(OUTCOMES);
         return 0;
     }
-    tell(place);
     place + 1
 }
 
@@ -98,7 +126,7 @@ fn put_answers(fd: i32, first: u64, answers: &[u8], count: usize) -> u64 {
 // What a run of `count` events has left: their lines, and their messages. The place behind the last, or 0.
 fn put_run(place: u64, s: Streams, ran: Ran, count: usize, answers: &[u8], tray: &[u8]) -> u64 {
     if ran.events != count as u64 {
-        files::say(b"refused what was checked");
+        names::say(b"refused what was checked");
         return 0;
     }
     let behind = put_answers(s.outcomes, place, answers, count);
@@ -106,7 +134,7 @@ fn put_run(place: u64, s: Streams, ran: Ran, count: usize, answers: &[u8], tray:
         return 0;
     }
     if !put_messages(s.messages, tray, ran.messages) {
-        files::fail_output(MESSAGES);
+        names::fail_of(MESSAGES);
         return 0;
     }
     behind
@@ -128,6 +156,7 @@ fn whole(
     books: &[u8],
     most: u8,
     events: &[u8],
+    tally: &mut [u64; 16],
 ) -> u64 {
     let mut tray = empty_tray();
     let mut answers = [0u8; 2048];
@@ -141,41 +170,75 @@ fn whole(
         &mut answers,
     );
     let count = events.len() / RECORD;
+    summary::count_run(tally, &answers, count);
     put_run(place, s, ran, count, &answers, &tray)
+}
+
+// The last bytes are no whole record.
+fn say_part(bytes: u64, outcome: u64) {
+    names::put_with(
+        b"replay: the last # bytes are no whole record: taken as one more event, refused with #\n",
+        bytes,
+        outcome,
+    );
 }
 
 // A part of a record at the end is an event too, and finds the 64 places that a step asks for.
 fn rest(
     place: u64,
-    outcomes: i32,
+    s: Streams,
     table: &mut [u8],
     providers: &[u8],
     books: &[u8],
     most: u8,
     event: &[u8],
+    tally: &mut [u64; 16],
 ) -> u64 {
     if place == 0 || event.len() == 0 {
         return place;
     }
+    if !files::ended(s.input, EVENTS) {
+        return 0;
+    }
     let mut tray = [0u8; 1536];
     let a = engine::step::step(table, providers, books, most, event, &mut tray);
-    put_event(outcomes, place, a.outcome, a.count)
+    summary::count(tally, a.outcome);
+    say_part(event.len() as u64, a.outcome);
+    put_event(s.outcomes, place, a.outcome, a.count)
 }
 
 // The next events of the input; the place behind them, which is the same where the input ended, or 0.
-fn next(place: u64, s: Streams, table: &mut [u8], providers: &[u8], books: &[u8], most: u8) -> u64 {
+fn next(
+    place: u64,
+    s: Streams,
+    table: &mut [u8],
+    providers: &[u8],
+    books: &[u8],
+    most: u8,
+    tally: &mut [u64; 16],
+) -> u64 {
     let mut events = [0u8; 24576];
     let n = io::read_full(s.input, &mut events);
     let end = n - n % RECORD;
-    let behind = whole(place, s, table, providers, books, most, &events[..end]);
+    let behind = whole(
+        place,
+        s,
+        table,
+        providers,
+        books,
+        most,
+        &events[..end],
+        tally,
+    );
     rest(
         behind,
-        s.outcomes,
+        s,
         table,
         providers,
         books,
         most,
         &events[end..n],
+        tally,
     )
 }
 
@@ -188,18 +251,27 @@ fn reached(place: u64, input: i32) -> u64 {
     }
 }
 
-// All events, up to the input's end; the place behind the last, counted from 1, or 0.
-pub fn each(s: Streams, table: &mut [u8], providers: &[u8], books: &[u8], most: u8) -> u64 {
-    let mut place: u64 = 1;
+// All events from the place on where the input stands, up to its end; the place behind the last, counted from 1, or 0.
+pub fn each(
+    from: u64,
+    s: Streams,
+    table: &mut [u8],
+    providers: &[u8],
+    books: &[u8],
+    most: u8,
+    tally: &mut [u64; 16],
+) -> u64 {
+    let mut place = from;
     let mut turns = MOST_EVENTS;
     while turns > 0 {
-        let behind = next(place, s, table, providers, books, most);
+        let behind = next(place, s, table, providers, books, most, tally);
         if behind == 0 {
             return 0;
         }
         if behind == place {
             return reached(place, s.input);
         }
+        tell(place, behind, s.whole);
         place = behind;
         turns -= 1;
     }

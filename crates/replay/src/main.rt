@@ -2,17 +2,21 @@
 // Thin over the engine: all that decides is `batch::run`, which is `engine::step` again and again.
 mod events;
 mod files;
+mod names;
+mod parts;
+mod summary;
 
-use files::AFTER;
-use files::ARGUMENTS;
-use files::BOOKS;
-use files::MESSAGES;
-use files::OUTCOMES;
-use files::PROVIDERS;
-use files::RETRIES;
-use files::Streams;
-use files::TABLE;
-use libc::STDERR_FILENO;
+use events::Streams;
+use libc::SEEK_END;
+use names::BOOKS;
+use names::CHECK;
+use names::EVENTS;
+use names::PROVIDERS;
+use names::REPLAY;
+use names::REPLAY_FROM;
+use names::RETRIES;
+use names::TABLE;
+use parts::Outputs;
 use scan::Soundness;
 ghost use mathlib.Core.Path.{_≡_};
 ghost use lib.ListN.{length};
@@ -22,8 +26,10 @@ const MOST_RETRIES: u8 = 7;
 const ROW: usize = 80;
 
 const BOOK_BYTES: usize = 8712;
+// The largest number to which a digit can be put.
+const MOST_TENTH: u64 = 1_844_674_407_370_955_160;
 
-// A digit's number; more than 7 for any other byte.
+// A digit's number; more than 9 for any other byte.
 fn number(digit: u8) -> u8 {
     if digit < b'0' {
         return 255;
@@ -34,24 +40,50 @@ fn number(digit: u8) -> u8 {
 // R, or more than 7 where the argument is none.
 fn retries() -> u8 {
     let mut digit = [0u8; 1];
-    let n = os::arg(RETRIES, &mut digit);
+    let n = names::name(RETRIES, &mut digit);
     if n != 1 {
         return 255;
     }
     number(digit[0])
 }
 
+// One more digit of a place; 0 where it is none or the place too large.
+fn longer(place: u64, digit: u8) -> u64 {
+    let n = number(digit);
+    if n > 9 {
+        return 0;
+    }
+    if place >= MOST_TENTH {
+        return 0;
+    }
+    place * 10 + n as u64
+}
+
+// A place, from 1; 0 where the text is none.
+fn place_in(text: &[u8]) -> u64 {
+    let mut place: u64 = 0;
+    let mut i: usize = 0;
+    while i < text.len() {
+        place = longer(place, text[i]);
+        if place == 0 {
+            return 0;
+        }
+        i += 1;
+    }
+    place
+}
+
 // Whether the table is sound; if not, says so.
 fn table_fits(table: &[u8]) -> bool {
     if table.len() % ROW != 0 {
-        files::say_of(TABLE, b"the table is not whole rows of 80 bytes");
+        names::say_of(TABLE, b"the table is not whole rows of 80 bytes");
         return false;
     }
     let verdict = scan::verdict(table);
     match verdict {
         Soundness::Sound { used } => true,
         Soundness::Unsound => {
-            files::say_unsound(TABLE);
+            names::say_of(TABLE, b"the table is unsound");
             false
         }
     }
@@ -61,7 +93,7 @@ fn table_fits(table: &[u8]) -> bool {
 fn books_fit(providers: &[u8], books: &[u8]) -> bool {
     let l = providers::marks_of_bytes(providers);
     if !l.sound {
-        files::say_unsound(PROVIDERS);
+        names::say_of(PROVIDERS, b"the provider list is unsound");
         return false;
     }
     if books.len() != BOOK_BYTES {
@@ -70,43 +102,73 @@ fn books_fit(providers: &[u8], books: &[u8]) -> bool {
     }
     let kept = audit::sound(l.marks, books);
     if !kept {
-        files::say_unsound(BOOKS);
+        names::say_of(BOOKS, b"the books are unsound");
     }
     kept
 }
 
-// Outcomes and messages stand, up to the place behind the last event; the table after them, and a last line that says so.
-fn finish(behind: u64, s: Streams, table: &[u8]) {
-    if behind == 0 {
-        return;
-    }
-    if !files::close(s.outcomes, OUTCOMES) {
-        return;
-    }
-    if !files::close(s.messages, MESSAGES) {
-        return;
-    }
-    if files::save(AFTER, table) {
-        io::print_decimal(STDERR_FILENO, behind - 1);
-        io::write_all(STDERR_FILENO, b" events replayed\n");
+// How many rows a table has used, and of how many, in a text with a '#' for each.
+fn say_rows(text: &[u8], table: &[u8]) {
+    let rows = (table.len() / ROW) as u64;
+    let verdict = scan::verdict(table);
+    match verdict {
+        Soundness::Sound { used } => names::put_with(text, used as u64, rows),
+        Soundness::Unsound => {}
     }
 }
 
-// Checks what is lent to each event before any file is written, and replays. The table after the events is written last, so that it
-// stands for all of them or is not there.
-fn replay(table: &mut [u8], providers: &[u8], books: &[u8], most: u8) {
-    if !table_fits(table) {
+// The outputs get their names where all events up to the place behind the last are replayed, and a last line says so.
+fn finish(from: u64, behind: u64, o: Outputs, tally: &[u64; 16], table: &[u8]) {
+    let well = behind > 0 && parts::all_settled(o, table);
+    if well {
+        summary::say(tally);
+        say_rows(b"rows used: # of #\n", table);
+    }
+    if parts::end_all(o, well) {
+        names::put_with(
+            b"# events replayed\n",
+            std::num::wrapping_sub_u64(behind, from),
+            0,
+        );
+    }
+}
+
+// Replays from an event's place on.
+fn replay(table: &mut [u8], providers: &[u8], books: &[u8], most: u8, from: u64) {
+    let input = files::open(EVENTS);
+    if input < 0 {
         return;
     }
-    if !books_fit(providers, books) {
+    let whole = files::events_in(libc::lseek(input, 0, SEEK_END));
+    if !files::sought(input, from, whole) {
         return;
     }
-    let s = files::open_streams();
-    if s.messages < 0 {
+    let o = parts::make_all();
+    if o.after < 0 {
         return;
     }
-    let behind = events::each(s, table, providers, books, most);
-    finish(behind, s, table);
+    let s = Streams {
+        input,
+        whole,
+        outcomes: o.outcomes,
+        messages: o.messages,
+    };
+    let mut tally = [0u64; 16];
+    let behind = events::each(from, s, table, providers, books, most, &mut tally);
+    finish(from, behind, o, &tally, table);
+}
+
+// Checks what is lent to each event before any file is written, and replays from an event's place on; from 0, it checks alone.
+fn begin(table: &mut [u8], providers: &[u8], books: &[u8], most: u8, from: u64) {
+    let sound = table_fits(table) & books_fit(providers, books);
+    if !sound {
+        return;
+    }
+    if from == 0 {
+        say_rows(b"# of # rows used, sound\n", table);
+    } else {
+        replay(table, providers, books, most, from);
+    }
 }
 
 // 4,096 free rows.
@@ -117,7 +179,7 @@ fn free_rows() -> [u8; 327680]
 }
 
 // Reads what is lent to each event, and goes on if all of it was read.
-fn run(most: u8) {
+fn run(most: u8, from: u64) {
     let mut table = free_rows();
     let mut providers = [0u8; 63];
     let mut books = [0u8; 8712];
@@ -133,18 +195,69 @@ fn run(most: u8) {
     if b > 8712 {
         return;
     }
-    replay(&mut table[..t], &providers[..p], &books[..b], most);
+    begin(&mut table[..t], &providers[..p], &books[..b], most, from);
+}
+
+// A replay, where R is one and the outputs are files of their own.
+fn run_from(from: u64) {
+    let most = retries();
+    if most > MOST_RETRIES {
+        names::say_of(RETRIES, b"R is not 0 to 7");
+        return;
+    }
+    if names::all_own() {
+        run(most, from);
+    }
+}
+
+// The first word.
+fn is_first(word: &[u8]) -> bool {
+    let mut first = io::buffer();
+    let n = os::arg(1, &mut first);
+    check::same(&first[..n], word)
+}
+
+// Whether the options are those that so many arguments have, and none stands where TABLE does.
+fn understood() -> bool {
+    let mut table = io::buffer();
+    let n = names::name(TABLE, &mut table);
+    if n > 1 && table[0] == b'-' && table[1] == b'-' {
+        return false;
+    }
+    match os::arg_count() {
+        REPLAY => true,
+        REPLAY_FROM => is_first(b"--from"),
+        CHECK => is_first(b"--check"),
+        _ => false,
+    }
+}
+
+// The place behind '--from'; 1 without it.
+fn from() -> u64 {
+    if os::arg_count() != REPLAY_FROM {
+        return 1;
+    }
+    let mut text = [0u8; 20];
+    let n = os::arg(2, &mut text);
+    place_in(&text[..n])
 }
 
 fn main() {
-    if os::arg_count() != ARGUMENTS {
-        files::say(b"usage: replay TABLE PROVIDERS BOOKS R EVENTS OUTCOMES MESSAGES TABLE-AFTER");
+    if !understood() {
+        names::say(
+            b"usage: replay [--from N] TABLE PROVIDERS BOOKS R EVENTS OUTCOMES MESSAGES TABLE-AFTER, \
+            or replay --check TABLE PROVIDERS BOOKS",
+        );
         return;
     }
-    let most = retries();
-    if most > MOST_RETRIES {
-        files::say_of(RETRIES, b"R is not 0 to 7");
+    if os::arg_count() == CHECK {
+        run(0, 0);
         return;
     }
-    run(most);
+    let place = from();
+    if place == 0 {
+        names::say(b"N is no place: the first event is at 1");
+        return;
+    }
+    run_from(place);
 }

@@ -8,58 +8,58 @@ use Rattle.replay.proofs.run.Statement.{statement}
 use Rattle.replay.proofs.run.Tie as tie
 
 free-rows-requires : tie.Need-free-rows-requires
-free-rows-requires c κs = search needs
+free-rows-requires c κs = tt
 
 slice-aggregate-load : tie.Need-slice-aggregate-load
 slice-aggregate-load c = search needs
 
 load-requires : tie.Need-load-requires
-load-requires c κs = search needs
+load-requires c κs = tt
 
 slice-aggregate-load-2 : tie.Need-slice-aggregate-load-2
 slice-aggregate-load-2 c = search needs
 
 load-requires-2 : tie.Need-load-requires-2
-load-requires-2 c κs = search needs
+load-requires-2 c κs = tt
 
 slice-aggregate-load-3 : tie.Need-slice-aggregate-load-3
 slice-aggregate-load-3 c = search needs
 
 load-requires-3 : tie.Need-load-requires-3
-load-requires-3 c κs = search needs
+load-requires-3 c κs = tt
 
 returns : tie.Need-returns
-returns c = search needs
+returns c = tt
 
 returns-2 : tie.Need-returns-2
-returns-2 c = search needs
+returns-2 c = tt
 
 returns-3 : tie.Need-returns-3
-returns-3 c = search needs
+returns-3 c = tt
 
 array-borrow-prefix-table : tie.Need-array-borrow-prefix-table
 array-borrow-prefix-table c = search needs
 
-slice-aggregate-replay : tie.Need-slice-aggregate-replay
-slice-aggregate-replay c = sym (length-take-le _ _ (omega arith))
+slice-aggregate-begin : tie.Need-slice-aggregate-begin
+slice-aggregate-begin c = sym (length-take-le _ _ (omega arith))
 
 array-share-prefix-providers : tie.Need-array-share-prefix-providers
 array-share-prefix-providers c = search needs
 
-slice-aggregate-replay-2 : tie.Need-slice-aggregate-replay-2
-slice-aggregate-replay-2 c = sym (length-take-le _ _ (omega arith))
+slice-aggregate-begin-2 : tie.Need-slice-aggregate-begin-2
+slice-aggregate-begin-2 c = sym (length-take-le _ _ (omega arith))
 
 array-share-prefix-books : tie.Need-array-share-prefix-books
 array-share-prefix-books c = search needs
 
-slice-aggregate-replay-3 : tie.Need-slice-aggregate-replay-3
-slice-aggregate-replay-3 c = sym (length-take-le _ _ (omega arith))
+slice-aggregate-begin-3 : tie.Need-slice-aggregate-begin-3
+slice-aggregate-begin-3 c = sym (length-take-le _ _ (omega arith))
 
-replay-requires : tie.Need-replay-requires
-replay-requires c κs = search needs
+begin-requires : tie.Need-begin-requires
+begin-requires c κs = tt
 
 returns-4 : tie.Need-returns-4
-returns-4 c = search needs
+returns-4 c = tt
 
 pub run-spec : {M : Type 1} → statement M
 run-spec =
@@ -76,10 +76,10 @@ run-spec =
     returns-2
     returns-3
     array-borrow-prefix-table
-    slice-aggregate-replay
+    slice-aggregate-begin
     array-share-prefix-providers
-    slice-aggregate-replay-2
+    slice-aggregate-begin-2
     array-share-prefix-books
-    slice-aggregate-replay-3
-    replay-requires
+    slice-aggregate-begin-3
+    begin-requires
     returns-4)

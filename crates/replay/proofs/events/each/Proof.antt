@@ -8,10 +8,10 @@ use Rattle.replay.proofs.events.each.Statement.{statement}
 use Rattle.replay.proofs.events.each.Tie as tie
 
 abbrev Inv-loop : tie.InvT-loop
-Inv-loop s table₀ providers books most place₀ turns₀ table place turns = length table ≡ length table₀
+Inv-loop from s table₀ providers books most tally₀ place₀ turns₀ table tally place turns = length table ≡ length table₀
 
 abbrev μ-loop : tie.MeasureT-loop
-μ-loop s table₀ providers books most place₀ turns₀ table place turns = turns
+μ-loop from s table₀ providers books most tally₀ place₀ turns₀ table tally place turns = turns
 
 loop-holds : tie.Need-loop-holds Inv-loop μ-loop
 loop-holds c = refl
@@ -22,7 +22,7 @@ next-requires c κs = tt
 same-length : tie.Need-same-length Inv-loop μ-loop
 same-length c =
     let k = c .before .before .before .next .kept in
-    let i = c .before .before .before .before .before .before .loop .inv in
+    let i = c .before .before .before .before .before .before .before .loop .inv in
     search needs
 
 returns : tie.Need-returns Inv-loop μ-loop
@@ -34,11 +34,14 @@ reached-requires c κs = tt
 same-length-2 : tie.Need-same-length-2 Inv-loop μ-loop
 same-length-2 c =
     let k = c .before .before .before .before .before .before .next .kept in
-    let i = c .before .before .before .before .before .before .before .before .before .loop .inv in
+    let i = c .before .before .before .before .before .before .before .before .before .before .loop .inv in
     search needs
 
 returns-2 : tie.Need-returns-2 Inv-loop μ-loop
 returns-2 c = tt
+
+tell-requires : tie.Need-tell-requires Inv-loop μ-loop
+tell-requires c κs = tt
 
 sub-turns : tie.Need-sub-turns Inv-loop μ-loop
 sub-turns c = omega arith
@@ -48,8 +51,8 @@ loop-less c = omega arith
 
 loop-again : tie.Need-loop-again Inv-loop μ-loop
 loop-again c =
-    let k = c .before .before .before .before .next .kept in
-    let i = c .before .before .before .before .before .before .before .loop .inv in
+    let k = c .before .before .before .before .before .next .kept in
+    let i = c .before .before .before .before .before .before .before .before .before .loop .inv in
     search needs
 
 same-length-3 : tie.Need-same-length-3 Inv-loop μ-loop
@@ -71,6 +74,7 @@ each-spec =
     reached-requires
     same-length-2
     returns-2
+    tell-requires
     sub-turns
     loop-less
     loop-again

@@ -11,7 +11,7 @@ slice-aggregate-read-full : tie.Need-slice-aggregate-read-full
 slice-aggregate-read-full c = search needs
 
 read-full-requires : tie.Need-read-full-requires
-read-full-requires c κs = search needs
+read-full-requires c κs = tt
 
 sub-end : tie.Need-sub-end
 sub-end c = search needs
@@ -23,7 +23,7 @@ slice-aggregate-whole : tie.Need-slice-aggregate-whole
 slice-aggregate-whole c = sym (length-take-le _ _ (omega arith))
 
 whole-requires : tie.Need-whole-requires
-whole-requires c κs = search needs
+whole-requires c κs = tt
 
 sub-rest : tie.Need-sub-rest
 sub-rest c = search needs
@@ -35,13 +35,13 @@ part-rest-end : tie.Need-part-rest-end
 part-rest-end c = search needs
 
 rest-requires : tie.Need-rest-requires
-rest-requires c κs = search needs
+rest-requires c κs = tt
 
 same-length : tie.Need-same-length
 same-length c = search needs
 
 returns : tie.Need-returns
-returns c = search needs
+returns c = tt
 
 pub next-spec : {M : Type 1} → statement M
 next-spec =
