@@ -83,7 +83,7 @@ fn table_fits(table: &[u8]) -> bool {
     match verdict {
         Soundness::Sound { used } => true,
         Soundness::Unsound => {
-            names::say_of(TABLE, b"the table is unsound");
+            names::say_of(TABLE, b"the table is unsound: inspect says where");
             false
         }
     }
@@ -93,7 +93,7 @@ fn table_fits(table: &[u8]) -> bool {
 fn books_fit(providers: &[u8], books: &[u8]) -> bool {
     let l = providers::marks_of_bytes(providers);
     if !l.sound {
-        names::say_of(PROVIDERS, b"the provider list is unsound");
+        names::say_of(PROVIDERS, b"the provider list is unsound: inspect says where");
         return false;
     }
     if books.len() != BOOK_BYTES {
@@ -102,7 +102,7 @@ fn books_fit(providers: &[u8], books: &[u8]) -> bool {
     }
     let kept = audit::sound(l.marks, books);
     if !kept {
-        names::say_of(BOOKS, b"the books are unsound");
+        names::say_of(BOOKS, b"the books are unsound: inspect says where");
     }
     kept
 }
