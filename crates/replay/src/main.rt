@@ -93,7 +93,10 @@ fn table_fits(table: &[u8]) -> bool {
 fn books_fit(providers: &[u8], books: &[u8]) -> bool {
     let l = providers::marks_of_bytes(providers);
     if !l.sound {
-        names::say_of(PROVIDERS, b"the provider list is unsound: inspect says where");
+        names::say_of(
+            PROVIDERS,
+            b"the provider list is unsound: inspect says where",
+        );
         return false;
     }
     if books.len() != BOOK_BYTES {
