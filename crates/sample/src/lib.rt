@@ -1,18 +1,33 @@
-// A provider list that stands in the code, lent as records. [Z1, F7]
+// The provider list of document 01's example: held as three records, and lent to a step as a list. [Z1, F7]
 ghost use mathlib.Core.Path.{_≡_};
 ghost use Rattle.providers.specs.Providers.{listed};
+ghost use Rattle.engine.specs.Event.{Did};
+ghost use Rattle.engine.specs.Step.{resultIn};
 ghost use Rattle.sample.specs.Sample.{three};
 use model::Provider;
-use providers::Listed;
+use outcomes::Answer;
 
-// Providers 1 to 3, each with a Local SMS, as the reader of records says them.
-pub fn built_in() -> Listed
-    ensures { λ r. ⌜ r ≡ listed three ⌝ }
+// Providers 1 to 3, each present and with a Local SMS.
+pub fn built_in() -> [Provider; 3]
+    ensures { λ r. ⌜ r ≡ three ⌝ }
 {
     let p = Provider {
         present: true,
         local: true,
     };
-    let list = [p, p, p];
-    providers::marks_of_list(&list)
+    [p, p, p]
+}
+
+// One event on a table, with the three records lent as the provider list.
+pub fn step_of_three(
+    table: &mut [u8],
+    list: [Provider; 3],
+    books: &[u8],
+    most: u8,
+    event: &[u8],
+    tray: &mut [u8],
+) -> Answer
+    ensures { λ r. ⌜ Did (resultIn (listed list) (now (books .entry)) most (now (event .entry)) (now (table .entry)) (now (tray .entry))) (now (table .entry)) (now (tray .entry)) (now (table .exit)) (now (tray .exit)) r ⌝ }
+{
+    lent::step_of_list(table, &list, books, most, event, tray)
 }

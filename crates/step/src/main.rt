@@ -2,6 +2,7 @@
 // filter (3, 303555). Event records from standard input; a line for each, then a line for each version. [Z1]
 use libc::STDIN_FILENO;
 use libc::STDOUT_FILENO;
+use model::Provider;
 use model::Version;
 
 const RETRIES: u8 = 0;
@@ -57,14 +58,14 @@ fn put_books(books: &mut [u8]) {
     octets::put_u64(books, FILTERS_AT, (3 * 1_048_576 + 303_555) * PLACE);
 }
 
-// One more event, if there is one; a part of a record at the end is an event too.
-fn one(place: u64, table: &mut [u8], books: &[u8], tray: &mut [u8]) -> bool {
+// One more event, if there is one, with the list lent for it; a part of a record at the end is an event too.
+fn one(place: u64, table: &mut [u8], list: [Provider; 3], books: &[u8], tray: &mut [u8]) -> bool {
     let mut event = [0u8; RECORD];
     let n = io::read_full(STDIN_FILENO, &mut event);
     if n == 0 {
         return false;
     }
-    let a = engine::step::step_listed(table, sample::built_in(), books, RETRIES, &event[..n], tray);
+    let a = sample::step_of_three(table, list, books, RETRIES, &event[..n], tray);
     print_answer(place, a.outcome, a.count);
     true
 }
@@ -89,19 +90,19 @@ fn print_table(table: &[u8]) {
     }
 }
 
-fn events(table: &mut [u8], books: &[u8], tray: &mut [u8]) {
+fn events(table: &mut [u8], list: [Provider; 3], books: &[u8], tray: &mut [u8]) {
     let mut place: u64 = 1;
     while place < 18_446_744_073_709_551_615 {
-        if !one(place, table, books, tray) {
+        if !one(place, table, list, books, tray) {
             return;
         }
         place += 1;
     }
 }
 
-fn run(table: &mut [u8], books: &mut [u8], tray: &mut [u8]) {
+fn run(table: &mut [u8], list: [Provider; 3], books: &mut [u8], tray: &mut [u8]) {
     put_books(books);
-    events(table, books, tray);
+    events(table, list, books, tray);
     print_table(table);
 }
 
@@ -109,5 +110,6 @@ fn main() {
     let mut table = [0u8; 20480];
     let mut books = [0u8; 8712];
     let mut tray = [0u8; 1536];
-    run(&mut table, &mut books, &mut tray);
+    let list = sample::built_in();
+    run(&mut table, list, &mut books, &mut tray);
 }

@@ -9,10 +9,10 @@ use Rattle.step.proofs.events.Statement.{statement}
 use Rattle.step.proofs.events.Tie as tie
 
 abbrev Inv-loop : tie.InvT-loop
-Inv-loop table₀ books tray₀ place₀ table tray place = (length table ≡ length table₀) × (length tray ≡ length tray₀)
+Inv-loop table₀ list books tray₀ place₀ table tray place = (length table ≡ length table₀) × (length tray ≡ length tray₀)
 
 abbrev μ-loop : tie.MeasureT-loop
-μ-loop table₀ books tray₀ place₀ table tray place = 18446744073709551615 - place
+μ-loop table₀ list books tray₀ place₀ table tray place = 18446744073709551615 - place
 
 loop-holds : tie.Need-loop-holds Inv-loop μ-loop
 loop-holds c = (refl, refl)
