@@ -19,7 +19,7 @@ typedef struct {
     uint8_t table[ROWS * LUPINENBLATT_ROW_BYTES];
     uint8_t providers[3];
     uint8_t books[LUPINENBLATT_BOOKS_BYTES];
-    uint8_t tray[LUPINENBLATT_TRAY_PLACES * LUPINENBLATT_MESSAGE_BYTES];
+    uint8_t tray[LUPINENBLATT_TRAY_BYTES];
 } desk;
 
 /* A message that is expected: to the Local SMS of a provider or to its SOA, with the version's status and the failed set. */
@@ -62,54 +62,34 @@ static const event day[] = {
     {"the NPAC purges", LUPINENBLATT_PURGE, 0, 0, 0, 0, 1, 300, 0, LUPINENBLATT_MISPLACED, 0, {{0, 0, 0, 0, 0}}},
 };
 
-static const char *const outcomes[] = {
-    "done", "table, books, R or tray unsound", "record malformed", "sender or other not present", "code not listed",
-    "no such version", "sender lacks the standing", "status does not allow it", "too early", "does not fit the worked version",
-    "number busy", "not awaited", "the old side is not the current provider", "no free row", "version numbers used up",
-};
-
-static const char *const statuses[] = {
-    "pending", "conflict", "cancel-pending", "sending", "failed", "partial-failure", "active", "old", "canceled",
-};
-
-static const char *const sorts[] = {
-    "no message", "creation", "status", "attributes", "download create", "download modify", "download delete", "window",
-};
-
-#define NAME(names, number) ((number) < sizeof(names) / sizeof *(names) ? (names)[number] : "unknown")
-
 /* Prints a set of providers, as "2" or "1, 3". */
 static void print_set(uint64_t set)
 {
     const char *between = "";
     for (unsigned provider = 1; provider <= LUPINENBLATT_PROVIDERS_BYTES; provider++)
-        if (set >> provider & 1) {
+        if (lupinenblatt_set_has(set, provider)) {
             printf("%s%u", between, provider);
             between = ", ";
         }
 }
 
-static void print_message(const uint8_t *place)
+static void print_message(lupinenblatt_message_fields m)
 {
-    uint64_t failed = lupinenblatt_message_failed(place), lrn = lupinenblatt_message_lrn(place);
-    printf("        %s to the %s of provider %u: %" PRIu64 " version %u is %s", NAME(sorts, lupinenblatt_message_sort(place)),
-           lupinenblatt_message_local(place) ? "Local SMS" : "SOA", lupinenblatt_message_provider(place), lupinenblatt_message_tn(place),
-           lupinenblatt_message_version(place), NAME(statuses, lupinenblatt_message_status(place)));
-    if (lrn != 0)
-        printf(", LRN %" PRIu64, lrn);
-    if (failed != 0) {
+    printf("        %s to the %s of provider %u: %" PRIu64 " version %u is %s", lupinenblatt_sort_name(m.sort), m.local ? "Local SMS" : "SOA",
+           m.provider, m.tn, m.version, lupinenblatt_status_name(m.status));
+    if (m.lrn != 0)
+        printf(", LRN %" PRIu64, m.lrn);
+    if (m.failed != 0) {
         printf(", failed at ");
-        print_set(failed);
+        print_set(m.failed);
     }
     printf("\n");
 }
 
-static int is_message(const uint8_t *place, const message *m)
+static int is_message(lupinenblatt_message_fields told, const message *m)
 {
-    return lupinenblatt_message_sort(place) == m->sort && lupinenblatt_message_provider(place) == m->provider
-        && lupinenblatt_message_local(place) == m->local && lupinenblatt_message_status(place) == m->status
-        && lupinenblatt_message_failed(place) == m->failed && lupinenblatt_message_tn(place) == TN
-        && lupinenblatt_message_version(place) == 1;
+    return told.sort == m->sort && told.provider == m->provider && told.local == m->local && told.status == m->status
+        && told.failed == m->failed && told.tn == TN && told.version == 1;
 }
 
 /* An empty table, providers 1 to 3 with Local SMSs, code 303555 owned by 1, and the filter (3, 303555). */
@@ -117,8 +97,8 @@ static void set_up(desk *d)
 {
     memset(d, 0, sizeof *d);
     memset(d->providers, LUPINENBLATT_PROVIDER_LOCAL, sizeof d->providers);
-    memcpy(d->books + 8, "\x01\x28\x70\xc1", 4);
-    memcpy(d->books + 4104, "\x00\x34\xa1\xc3", 4);
+    lupinenblatt_books_put_code(d->books, 0, 303555, 1);
+    lupinenblatt_books_put_filter(d->books, 0, 3, 303555);
     memset(d->tray, 0xa5, sizeof d->tray);
 }
 
@@ -129,7 +109,7 @@ static int is_expected(const event *e, lupinenblatt_answer a, const desk *before
     if (a.outcome != e->outcome || a.count != e->count)
         return 0;
     for (size_t i = 0; i < e->count; i++)
-        if (!is_message(after->tray + i * LUPINENBLATT_MESSAGE_BYTES, &e->messages[i]))
+        if (!is_message(lupinenblatt_message(after->tray, i), &e->messages[i]))
             return 0;
     if (memcmp(before->tray + written, after->tray + written, sizeof after->tray - written) != 0)
         return 0;
@@ -140,19 +120,19 @@ static int is_expected(const event *e, lupinenblatt_answer a, const desk *before
 static int run(desk *d, const event *e)
 {
     static desk before;
+    lupinenblatt_event fields = {e->kind, e->sender, e->other, e->mark, 0, TN, e->lrn, e->version, e->time, e->due};
     uint8_t record[LUPINENBLATT_RECORD_BYTES];
     lupinenblatt_answer a;
-    if (lupinenblatt_record_write(e->kind, e->sender, e->other, e->mark, 0, TN, e->lrn, e->version, e->time, e->due, record, sizeof record)
-        != LUPINENBLATT_DONE) {
+    if (lupinenblatt_event_write(fields, record, sizeof record) != LUPINENBLATT_DONE) {
         printf("%4" PRIu64 "  %s: NOT WRITTEN\n", e->time, e->words);
         return 0;
     }
     before = *d;
     a = lupinenblatt_step(d->table, sizeof d->table, d->providers, sizeof d->providers, d->books, sizeof d->books, RETRIES, record,
                           sizeof record, d->tray, sizeof d->tray);
-    printf("%4" PRIu64 "  %s: %s\n", e->time, e->words, NAME(outcomes, a.outcome));
+    printf("%4" PRIu64 "  %s: %s\n", e->time, e->words, lupinenblatt_outcome_name(a.outcome));
     for (size_t i = 0; i < a.count && i < LUPINENBLATT_TRAY_PLACES; i++)
-        print_message(d->tray + i * LUPINENBLATT_MESSAGE_BYTES);
+        print_message(lupinenblatt_message(d->tray, i));
     if (a.outcome != LUPINENBLATT_DONE)
         printf("        %s\n", memcmp(&before, d, sizeof before) == 0 ? "no byte of table or tray changed" : "BYTES CHANGED");
     if (is_expected(e, a, &before, d))
@@ -164,17 +144,15 @@ static int run(desk *d, const event *e)
 /* The number's row at the end of the day, printed, and whether it is as expected. */
 static int close_day(const desk *d)
 {
-    const uint8_t *row = d->table;
+    lupinenblatt_row_fields row = lupinenblatt_row(d->table, 0);
     lupinenblatt_answer checked = lupinenblatt_table_check(d->table, sizeof d->table);
-    printf("\n%" PRIu64 " version %u is %s with provider %u, LRN %" PRIu64 "; confirmed by ", lupinenblatt_row_tn(row),
-           lupinenblatt_row_version(row), NAME(statuses, lupinenblatt_row_status(row)), lupinenblatt_row_new_provider(row),
-           lupinenblatt_row_lrn(row));
-    print_set(lupinenblatt_row_confirmed(row));
+    printf("\n%" PRIu64 " version %u is %s with provider %u, LRN %" PRIu64 "; confirmed by ", row.tn, row.version,
+           lupinenblatt_status_name(row.status), row.new_provider, row.lrn);
+    print_set(row.confirmed);
     printf("\n");
-    return checked.outcome == LUPINENBLATT_DONE && checked.count == 1 && lupinenblatt_row_tn(row) == TN && lupinenblatt_row_version(row) == 1
-        && lupinenblatt_row_status(row) == LUPINENBLATT_ACTIVE && lupinenblatt_row_live(row) && lupinenblatt_row_new_provider(row) == 2
-        && lupinenblatt_row_lrn(row) == LRN && lupinenblatt_row_confirmed(row) == (SET(1) | SET(2)) && lupinenblatt_row_waiting(row) == 0
-        && lupinenblatt_row_failed(row) == 0;
+    return checked.outcome == LUPINENBLATT_DONE && checked.count == 1 && row.tn == TN && row.version == 1
+        && row.status == LUPINENBLATT_ACTIVE && row.live && row.new_provider == 2 && row.lrn == LRN
+        && row.confirmed == (SET(1) | SET(2)) && row.waiting == 0 && row.failed == 0;
 }
 
 int main(void)

@@ -3,5 +3,5 @@
 # All crates below it are proved first, so the first run takes a few minutes.
 set -eu
 cd "$(dirname "$0")/.."
-rt check records >&2
+tools/prove records
 examples/run_program records <crates/records/stdin | head -n "${1:-20}"

@@ -5,7 +5,15 @@
  * many as the length says. The memory of a slice is the caller's: a call touches nothing outside it and keeps no pointer. The caller sees to
  * it that the pointer is not null, also where the length is 0, and that a slice that a call writes to overlaps no other slice of that call.
  *
- * Apart from that a call answers for every input: there are no bytes, numbers or lengths that it may not be given.
+ * Apart from that a call answers for every input: there are no bytes, numbers or lengths that it may not be given. The empty slice of a C++
+ * container may have a null pointer: lend another one with length 0. What the built library does with null and 0 is tested, not promised.
+ *
+ * There is no state. The library keeps nothing between calls, has no variables, allocates nothing, and needs no other symbol: no C library
+ * and no start-up. A call uses at most 4 KiB of stack. Calls on several threads do not know of each other, so two calls may run at the same
+ * time if neither writes to a slice that the other has; a caller who shares a table locks it for the whole call. To store the table and to
+ * send the messages, both or neither, is the caller's.
+ *
+ * The functions that are `static inline` below are conveniences in C over the same bytes. They are tested and not proved.
  */
 #ifndef LUPINENBLATT_H
 #define LUPINENBLATT_H
@@ -16,6 +24,12 @@
 #ifdef __cplusplus
 extern "C" {
 #endif
+
+/* The version of header and library; docs/LAYOUTS.md says what each part counts. */
+#define LUPINENBLATT_VERSION_MAJOR 0
+#define LUPINENBLATT_VERSION_MINOR 1
+#define LUPINENBLATT_VERSION_PATCH 0
+#define LUPINENBLATT_VERSION "0.1.0"
 
 /* Outcome numbers. */
 #define LUPINENBLATT_DONE 0
@@ -34,7 +48,19 @@ extern "C" {
 #define LUPINENBLATT_FULL 13          /* a fresh version and no free row */
 #define LUPINENBLATT_EXHAUSTED 14     /* a fresh version and number 65,535 is used */
 
-/* Kinds of events. */
+/*
+ * Kinds of events, and the fields that each takes besides TN and time, which every record has. A field that is not named is 0.
+ *
+ *   kind                  sender         other     further fields
+ *   1  new side creates   1 to 63        1 to 63   LRN, due; sender and other differ
+ *   2  old side creates   1 to 63        1 to 63   mark, cause with "no", due; sender and other differ
+ *   3  new side modifies  0 to 63        -         version, LRN, due
+ *   4  old side modifies  0 to 63        -         version, mark, cause with "no", due
+ *   9  modify active      0 to 63        -         version, LRN
+ *   11 reply              1 to 63        -         version, mark
+ *   12 silence            0              1 to 63   version
+ *   5 to 8, 10, 13 to 15  0 to 63        -         version
+ */
 #define LUPINENBLATT_NEW_CREATES 1
 #define LUPINENBLATT_OLD_CREATES 2
 #define LUPINENBLATT_NEW_MODIFIES 3
@@ -76,7 +102,16 @@ extern "C" {
 #define LUPINENBLATT_BOOKS_BYTES 8712
 #define LUPINENBLATT_MESSAGE_BYTES 24
 #define LUPINENBLATT_TRAY_PLACES 64
+#define LUPINENBLATT_TRAY_BYTES (LUPINENBLATT_TRAY_PLACES * LUPINENBLATT_MESSAGE_BYTES)  /* of a tray that is just large enough */
 #define LUPINENBLATT_MOST_RETRIES 7
+
+/* The books' lists: where each begins, and how many places it has. */
+#define LUPINENBLATT_CODES_AT 8
+#define LUPINENBLATT_FILTERS_AT 4104
+#define LUPINENBLATT_PAIRS_AT 8200
+#define LUPINENBLATT_CODE_PLACES 1024
+#define LUPINENBLATT_FILTER_PLACES 1024
+#define LUPINENBLATT_PAIR_PLACES 64
 
 /* A byte of the provider list. */
 #define LUPINENBLATT_PROVIDER_ABSENT 0
@@ -160,8 +195,8 @@ extern "C" {
 #define LUPINENBLATT_BOOKS_FAULT_OWNER 7             /* the owner is 0 or absent */
 #define LUPINENBLATT_BOOKS_FAULT_CODES_ORDER 8       /* not above the code before it, which is `second` */
 #define LUPINENBLATT_BOOKS_FAULT_FILTERS_HOLE 9      /* a filter right behind a free place, which is `second` */
-#define LUPINENBLATT_BOOKS_FAULT_FILTER_PROVIDER 10  /* the provider is 0, above 63 or absent */
-#define LUPINENBLATT_BOOKS_FAULT_FILTER_CODE 11      /* the code is no code */
+#define LUPINENBLATT_BOOKS_FAULT_FILTER_PROVIDER 10  /* the filter's provider is 0, above 63 or absent */
+#define LUPINENBLATT_BOOKS_FAULT_FILTER_CODE 11      /* the filter's code is no code */
 #define LUPINENBLATT_BOOKS_FAULT_FILTERS_ORDER 12    /* not above the filter before it, which is `second` */
 #define LUPINENBLATT_BOOKS_FAULT_PAIRS_HOLE 13       /* a pair right behind a free place, which is `second` */
 #define LUPINENBLATT_BOOKS_FAULT_PAIR_CODE 14        /* a code of the pair is no code */
@@ -275,8 +310,7 @@ lupinenblatt_fault lupinenblatt_table_fault(const uint8_t *table, size_t table_l
 lupinenblatt_fault lupinenblatt_books_fault(const uint8_t *providers, size_t providers_length, const uint8_t *books, size_t books_length);
 
 /*
- * Readers of a message and of a row, for C alone: each takes a pointer to the first byte of a place of the tray (24 bytes) or of a row (80
- * bytes). They are not part of what is proved.
+ * Readers of a message and of a row: each takes a pointer to the first byte of a place of the tray (24 bytes) or of a row (80 bytes).
  */
 static inline uint64_t lupinenblatt_word(const uint8_t *bytes, unsigned word)
 {
@@ -328,6 +362,331 @@ static inline uint64_t lupinenblatt_row_failed(const uint8_t *row) { return lupi
 static inline uint8_t lupinenblatt_row_retries(const uint8_t *row, unsigned provider)
 {
     return (uint8_t)lupinenblatt_bits(row, 7 + (provider - 1) / 21, 3 * ((provider - 1) % 21), 3);
+}
+
+/*
+ * An event with its fields by name, in the order of LUPINENBLATT_FIELD_KIND to LUPINENBLATT_FIELD_DUE. Each has 64 bits, so that a number too
+ * wide for its field reaches the proved call and is refused there.
+ */
+typedef struct {
+    uint64_t kind, sender, other, mark, cause, tn, lrn, version, time, due;
+} lupinenblatt_event;
+
+/* lupinenblatt_record_write of these fields. */
+static inline uint8_t lupinenblatt_event_write(lupinenblatt_event e, uint8_t *out, size_t out_length)
+{
+    return lupinenblatt_record_write(e.kind, e.sender, e.other, e.mark, e.cause, e.tn, e.lrn, e.version, e.time, e.due, out, out_length);
+}
+
+/* lupinenblatt_record_read to these fields; with LUPINENBLATT_MALFORMED they stay as they were. */
+static inline uint8_t lupinenblatt_event_read(const uint8_t *bytes, size_t bytes_length, lupinenblatt_event *e)
+{
+    uint64_t f[LUPINENBLATT_RECORD_FIELDS];
+    uint8_t said = lupinenblatt_record_read(bytes, bytes_length, f, LUPINENBLATT_RECORD_FIELDS);
+    if (said == LUPINENBLATT_DONE) {
+        e->kind = f[LUPINENBLATT_FIELD_KIND];
+        e->sender = f[LUPINENBLATT_FIELD_SENDER];
+        e->other = f[LUPINENBLATT_FIELD_OTHER];
+        e->mark = f[LUPINENBLATT_FIELD_MARK];
+        e->cause = f[LUPINENBLATT_FIELD_CAUSE];
+        e->tn = f[LUPINENBLATT_FIELD_TN];
+        e->lrn = f[LUPINENBLATT_FIELD_LRN];
+        e->version = f[LUPINENBLATT_FIELD_VERSION];
+        e->time = f[LUPINENBLATT_FIELD_TIME];
+        e->due = f[LUPINENBLATT_FIELD_DUE];
+    }
+    return said;
+}
+
+/* Whether provider 1 to 63 is in a set (provider n at bit n); 0 for any other number. */
+static inline int lupinenblatt_set_has(uint64_t set, unsigned provider)
+{
+    return provider >= 1 && provider <= LUPINENBLATT_PROVIDERS_BYTES && (set >> provider & 1) != 0;
+}
+
+/* A message with its fields by name. */
+typedef struct {
+    uint64_t tn, lrn;        /* the LRN is 0 where the message has none */
+    uint64_t failed;         /* provider n at bit n */
+    uint16_t version;
+    uint8_t status;          /* of the version after the event */
+    uint8_t sort, provider;
+    uint8_t local;           /* 1 for the provider's Local SMS, 0 for its SOA */
+} lupinenblatt_message_fields;
+
+/* The message at place i of a tray, from 0; i is below the count that the call answered. */
+static inline lupinenblatt_message_fields lupinenblatt_message(const uint8_t *tray, size_t i)
+{
+    const uint8_t *place = tray + i * LUPINENBLATT_MESSAGE_BYTES;
+    lupinenblatt_message_fields m;
+    m.tn = lupinenblatt_message_tn(place);
+    m.lrn = lupinenblatt_message_lrn(place);
+    m.failed = lupinenblatt_message_failed(place);
+    m.version = lupinenblatt_message_version(place);
+    m.status = lupinenblatt_message_status(place);
+    m.sort = lupinenblatt_message_sort(place);
+    m.provider = lupinenblatt_message_provider(place);
+    m.local = lupinenblatt_message_local(place);
+    return m;
+}
+
+/* A row with its fields by name; of a free row all are 0. */
+typedef struct {
+    uint64_t tn, lrn;
+    uint64_t confirmed, waiting, failed;   /* provider n at bit n */
+    uint32_t new_due, old_due, stamp, start;
+    uint16_t version;
+    uint8_t status, live, new_created, old_created, window_ran_out;
+    uint8_t new_provider, old_provider, authorization, cause, canceller, purpose;
+    uint8_t retries[LUPINENBLATT_PROVIDERS_BYTES + 1];   /* used by the system of provider n, at n; the first is 0 */
+} lupinenblatt_row_fields;
+
+/* The row at place i of a table, from 0. */
+static inline lupinenblatt_row_fields lupinenblatt_row(const uint8_t *table, size_t i)
+{
+    const uint8_t *row = table + i * LUPINENBLATT_ROW_BYTES;
+    lupinenblatt_row_fields r;
+    r.tn = lupinenblatt_row_tn(row);
+    r.lrn = lupinenblatt_row_lrn(row);
+    r.confirmed = lupinenblatt_row_confirmed(row);
+    r.waiting = lupinenblatt_row_waiting(row);
+    r.failed = lupinenblatt_row_failed(row);
+    r.new_due = lupinenblatt_row_new_due(row);
+    r.old_due = lupinenblatt_row_old_due(row);
+    r.stamp = lupinenblatt_row_stamp(row);
+    r.start = lupinenblatt_row_start(row);
+    r.version = lupinenblatt_row_version(row);
+    r.status = lupinenblatt_row_status(row);
+    r.live = lupinenblatt_row_live(row);
+    r.new_created = lupinenblatt_row_new_created(row);
+    r.old_created = lupinenblatt_row_old_created(row);
+    r.window_ran_out = lupinenblatt_row_window_ran_out(row);
+    r.new_provider = lupinenblatt_row_new_provider(row);
+    r.old_provider = lupinenblatt_row_old_provider(row);
+    r.authorization = lupinenblatt_row_authorization(row);
+    r.cause = lupinenblatt_row_cause(row);
+    r.canceller = lupinenblatt_row_canceller(row);
+    r.purpose = lupinenblatt_row_purpose(row);
+    r.retries[0] = 0;
+    for (unsigned provider = 1; provider <= LUPINENBLATT_PROVIDERS_BYTES; provider++)
+        r.retries[provider] = lupinenblatt_row_retries(row, provider);
+    return r;
+}
+
+/*
+ * Makers of a provider list and of books, and readers of the books' places. A maker returns 1 where it wrote its bytes, and 0, with nothing
+ * written, where the place is not there or a number is too wide for it. Places of the books count from 0 (those of lupinenblatt_fault from 1).
+ * Whether the lists are sound, with their order and their holes, lupinenblatt_books_fault says.
+ */
+static inline int lupinenblatt_providers_put(uint8_t *providers, size_t providers_length, unsigned provider, unsigned mark)
+{
+    if (provider < 1 || provider > providers_length || mark > 255)
+        return 0;
+    providers[provider - 1] = (uint8_t)mark;
+    return 1;
+}
+
+static inline uint32_t lupinenblatt_books_four(const uint8_t *b)
+{
+    return (uint32_t)b[0] << 24 | (uint32_t)b[1] << 16 | (uint32_t)b[2] << 8 | b[3];
+}
+
+static inline void lupinenblatt_books_put_four(uint8_t *b, uint32_t number)
+{
+    b[0] = (uint8_t)(number >> 24);
+    b[1] = (uint8_t)(number >> 16);
+    b[2] = (uint8_t)(number >> 8);
+    b[3] = (uint8_t)number;
+}
+
+/* Code and owner; the filter of a provider on a code; a pair of codes. With all numbers 0 the place is free. */
+static inline int lupinenblatt_books_put_code(uint8_t *books, size_t i, uint32_t code, uint32_t owner)
+{
+    if (i >= LUPINENBLATT_CODE_PLACES || code >> 26 != 0 || owner > 63)
+        return 0;
+    lupinenblatt_books_put_four(books + LUPINENBLATT_CODES_AT + 4 * i, code << 6 | owner);
+    return 1;
+}
+
+static inline int lupinenblatt_books_put_filter(uint8_t *books, size_t i, uint32_t provider, uint32_t code)
+{
+    if (i >= LUPINENBLATT_FILTER_PLACES || provider >> 12 != 0 || code >> 20 != 0)
+        return 0;
+    lupinenblatt_books_put_four(books + LUPINENBLATT_FILTERS_AT + 4 * i, provider << 20 | code);
+    return 1;
+}
+
+static inline int lupinenblatt_books_put_pair(uint8_t *books, size_t i, uint32_t one, uint32_t two)
+{
+    if (i >= LUPINENBLATT_PAIR_PLACES)
+        return 0;
+    lupinenblatt_books_put_four(books + LUPINENBLATT_PAIRS_AT + 8 * i, one);
+    lupinenblatt_books_put_four(books + LUPINENBLATT_PAIRS_AT + 8 * i + 4, two);
+    return 1;
+}
+
+typedef struct {
+    uint32_t code, owner;
+} lupinenblatt_code;
+
+typedef struct {
+    uint32_t provider, code;
+} lupinenblatt_filter;
+
+typedef struct {
+    uint32_t one, two;
+} lupinenblatt_pair;
+
+/* What stands at place i of each list; i is below the number of its places. */
+static inline lupinenblatt_code lupinenblatt_books_code(const uint8_t *books, size_t i)
+{
+    uint32_t number = lupinenblatt_books_four(books + LUPINENBLATT_CODES_AT + 4 * i);
+    lupinenblatt_code c;
+    c.code = number >> 6;
+    c.owner = number & 63;
+    return c;
+}
+
+static inline lupinenblatt_filter lupinenblatt_books_filter(const uint8_t *books, size_t i)
+{
+    uint32_t number = lupinenblatt_books_four(books + LUPINENBLATT_FILTERS_AT + 4 * i);
+    lupinenblatt_filter f;
+    f.provider = number >> 20;
+    f.code = number & 0xfffff;
+    return f;
+}
+
+static inline lupinenblatt_pair lupinenblatt_books_pair(const uint8_t *books, size_t i)
+{
+    lupinenblatt_pair p;
+    p.one = lupinenblatt_books_four(books + LUPINENBLATT_PAIRS_AT + 8 * i);
+    p.two = lupinenblatt_books_four(books + LUPINENBLATT_PAIRS_AT + 8 * i + 4);
+    return p;
+}
+
+/* Words for numbers. A number that is none of its kind has a text of its own: "no outcome", "no kind" and so on. */
+static inline const char *lupinenblatt_outcome_name(uint64_t outcome)
+{
+    static const char *const names[] = {
+        "done",
+        "table or books unsound, R above 7, or a tray below 64 whole places",
+        "record not 24 bytes or malformed",
+        "sender or other is not 0 and not present",
+        "a create for a code not listed",
+        "that TN and version not in the table",
+        "sender lacks the standing",
+        "status does not allow it",
+        "too early",
+        "a worked version that this create does not fit",
+        "number busy",
+        "not awaited",
+        "the old side is not the current provider",
+        "a fresh version and no free row",
+        "a fresh version and number 65,535 is used",
+    };
+    return outcome < sizeof names / sizeof *names ? names[outcome] : "no outcome";
+}
+
+static inline const char *lupinenblatt_kind_name(uint64_t kind)
+{
+    static const char *const names[] = {
+        "no kind", "new side creates", "old side creates", "new side modifies", "old side modifies", "activate", "cancel",
+        "acknowledge cancel", "resolve conflict", "modify active", "disconnect", "reply", "silence", "window ran out", "resend", "purge",
+    };
+    return kind < sizeof names / sizeof *names ? names[kind] : "no kind";
+}
+
+static inline const char *lupinenblatt_status_name(uint64_t status)
+{
+    static const char *const names[] = {
+        "pending", "conflict", "cancel-pending", "sending", "failed", "partial-failure", "active", "old", "canceled",
+    };
+    return status < sizeof names / sizeof *names ? names[status] : "no status";
+}
+
+static inline const char *lupinenblatt_sort_name(uint64_t sort)
+{
+    static const char *const names[] = {
+        "no sort", "creation", "status", "attributes", "download create", "download modify", "download delete", "window",
+    };
+    return sort < sizeof names / sizeof *names ? names[sort] : "no sort";
+}
+
+static inline const char *lupinenblatt_purpose_name(uint64_t purpose)
+{
+    static const char *const names[] = {"none", "activate", "modify", "disconnect"};
+    return purpose < sizeof names / sizeof *names ? names[purpose] : "no purpose";
+}
+
+static inline const char *lupinenblatt_canceller_name(uint64_t canceller)
+{
+    static const char *const names[] = {"nobody", "new side", "old side"};
+    return canceller < sizeof names / sizeof *names ? names[canceller] : "no canceller";
+}
+
+/* Words for the clauses of lupinenblatt_table_fault and lupinenblatt_books_fault. */
+static inline const char *lupinenblatt_table_fault_name(uint64_t clause)
+{
+    static const char *const names[] = {
+        "nothing at fault",
+        "the length is no multiple of the row's 80 bytes",
+        "more than 4,096 rows",
+        "a used row right behind a free one, which is the second place",
+        "a spare bit is set",
+        "the TN is no TN",
+        "the version number is 0",
+        "the status is above 8",
+        "the stamp is 0",
+        "the new provider is 0",
+        "the old provider is 0",
+        "the canceller is 3, neither side",
+        "bit 0 of a set, which is nobody's, is set",
+        "the highest bit of a word of retries, which is nobody's, is set",
+        "new and old provider are the same",
+        "the new side's due date and LRN do not go with its having created",
+        "the old side's due date and authorization do not go with its having created",
+        "neither side has created",
+        "a side that the status needs has not created",
+        "the cause is not 1 to 99 with \"no\", or not 0 without",
+        "a canceller outside cancel-pending, or none in it",
+        "a system stands in two of the three sets",
+        "retries used by a system that is not waiting",
+        "a broadcast start outside sending, or none in it",
+        "a waiting system outside sending, or none in it",
+        "the purpose does not go with the status",
+        "live where the status forbids it, or not live where it must be",
+        "live by activate with a waiting or failed system and no confirmed one",
+        "not above the row before it, which is the second place",
+        "a second live version of its TN; the second place is the other",
+        "a second sending version of its TN; the second place is the other",
+        "a second worked version of its TN; the second place is the other",
+        "the rows are sound, provider list or books are not",
+    };
+    return clause < sizeof names / sizeof *names ? names[clause] : "no clause";
+}
+
+static inline const char *lupinenblatt_books_fault_name(uint64_t clause)
+{
+    static const char *const names[] = {
+        "nothing at fault",
+        "the provider list has more than 63 bytes",
+        "a byte of the provider list is not 0, 1 or 3",
+        "the books are not 8,712 bytes",
+        "the first eight bytes are not zero",
+        "a code right behind a free place, which is the second place",
+        "the code is no code",
+        "the owner is 0 or absent",
+        "not above the code before it, which is the second place",
+        "a filter right behind a free place, which is the second place",
+        "the filter's provider is 0, above 63 or absent",
+        "the filter's code is no code",
+        "not above the filter before it, which is the second place",
+        "a pair right behind a free place, which is the second place",
+        "a code of the pair is no code",
+        "both codes of the pair are the same",
+        "a code of the pair stands in a pair before it; the second place is the nearest",
+    };
+    return clause < sizeof names / sizeof *names ? names[clause] : "no clause";
 }
 
 #ifdef __cplusplus
