@@ -90,7 +90,7 @@ module _ (m : Marks) (b : List ℕ) (most : ℕ) (t : List ℕ) (n : ℕ) (e : E
 
 -- ---- creates
 module _ (m : Marks) (b : List ℕ) (t : List ℕ) (n : ℕ) (e : Event) (f : Facts) (st : SoundTable t n) (sv : Surveyed (decode t) (nameIn e) f) (k : isCreate (e .kind) ≡ true) where
-  pub create-out : (most : ℕ) (gone : Bool) (owner : ℕ) (free : Bool) (o : Outcome) → gone ≡ absentIn m e → owner ≡ ownerOf (decodeBooks m b) (codeOf (e .tn .0)) → free ≡ ltb n (rowsIn t)
+  pub create-out : (most : ℕ) (gone : Bool) (owner : ℕ) (free : Bool) (o : Outcome) → gone ≡ absentIn m e → owner ≡ ownerOf (decodeBooks m b) (codeOf (e .tn)) → free ≡ ltb n (rowsIn t)
       → o ≡ createFor e gone owner f free → o ≡ judge (refuses (givenTo m b most t e)) (orderOf (e .kind))
   create-out most gone owner free o p q r s =
       s ∙ rw (p, q, r, ← st .count) (create-judged (decode t) (givenTo m b most t e) f refl sv k)

@@ -34,7 +34,8 @@ fn on_create(
     ensures { λ r. ⌜ ((most : ℕ) → Did (rule (givenTo marks (now (books .entry)) most (now (table .entry)) e)) (now (table .entry)) (now (tray .entry)) (now (table .exit)) (now (tray .exit)) r) ⌝ }
 {
     let gone = judge::absent(marks, e);
-    let owner = books::owner(books, e.tn.0 / 10000);
+    let tn = e.tn;
+    let owner = books::owner(books, books::code_of(tn));
     let free = n < table.len() / ROW;
     let o = judge::create(e, gone, owner, f, free);
     let outcome = outcomes::number(o);
