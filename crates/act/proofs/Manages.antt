@@ -210,10 +210,10 @@ answered-acted most e v w a p t y u z r ea ep ew q g =
     same = ap₂ (λ (ms ns : List Message). ms ++ ns) (ap₂ (λ (b : Bool) (x : ℕ). cond b (downloadTo v x ∷ []) []) ea ep) (ap settlingTold ew)
 
 -- ---- a broadcast
-module _ (m : Marks) (b : List ℕ) (e : Event) (v w : Version) (s : ℕ) (es : s ≡ maskOf (selects (decodeBooks m b) (codeOf (v .id .tn))) 63) (ew : w ≡ opened s e v) where
+module _ (m : Marks) (b : List ℕ) (e : Event) (v w : Version) (s k : ℕ) (ek : k ≡ codeOf (v .id .tn)) (es : s ≡ maskOf (selects (decodeBooks m b) k) 63) (ew : w ≡ opened s e v) where
   pub opened-is : w ≡ opened (selectedFor (decodeBooks m b) (v .id .tn)) e v
   unfolding selectedFor
-  opened-is = ew ∙ ap (λ (x : ℕ). opened x e v) es
+  opened-is = ew ∙ ap (λ (x : ℕ). opened x e v) (es ∙ ap (λ (c : ℕ). maskOf (selects (decodeBooks m b) c) 63) ek)
 
   pub cast-asked : (t : List Version) (n i : ℕ) (lives : Seen) (y : ℕ) → Broadcastable m b t n i e v lives → 64 ≤ y
       → Settling t n i w lives × (64 ≤ y) × Tellable w × (w .cast .purpose ≤ 3)
