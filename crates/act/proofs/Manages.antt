@@ -161,7 +161,7 @@ tail-of (with p ps) = ps
 -- a broadcast: w settles in the row of v
 module _ (m : Marks) (b : List ℕ) (t : List Version) (n i : ℕ) (e : Event) (v : Version) (lives : Seen) (g : Broadcastable m b t n i e v lives) where
   abbrev W : Version
-  W = opened (selectedFor (decodeBooks m b) (v .id .tn .0)) e v
+  W = opened (selectedFor (decodeBooks m b) (v .id .tn)) e v
 
   pub cast-settling : Settling t n i W lives
   unfolding broadcasts opened
@@ -210,10 +210,10 @@ answered-acted most e v w a p t y u z r ea ep ew q g =
     same = ap₂ (λ (ms ns : List Message). ms ++ ns) (ap₂ (λ (b : Bool) (x : ℕ). cond b (downloadTo v x ∷ []) []) ea ep) (ap settlingTold ew)
 
 -- ---- a broadcast
-module _ (m : Marks) (b : List ℕ) (e : Event) (v w : Version) (s : ℕ) (es : s ≡ maskOf (selects (decodeBooks m b) (codeOf (v .id .tn .0))) 63) (ew : w ≡ opened s e v) where
-  pub opened-is : w ≡ opened (selectedFor (decodeBooks m b) (v .id .tn .0)) e v
+module _ (m : Marks) (b : List ℕ) (e : Event) (v w : Version) (s k : ℕ) (ek : k ≡ codeOf (v .id .tn)) (es : s ≡ maskOf (selects (decodeBooks m b) k) 63) (ew : w ≡ opened s e v) where
+  pub opened-is : w ≡ opened (selectedFor (decodeBooks m b) (v .id .tn)) e v
   unfolding selectedFor
-  opened-is = ew ∙ ap (λ (x : ℕ). opened x e v) es
+  opened-is = ew ∙ ap (λ (x : ℕ). opened x e v) (es ∙ ap (λ (c : ℕ). maskOf (selects (decodeBooks m b) c) 63) ek)
 
   pub cast-asked : (t : List Version) (n i : ℕ) (lives : Seen) (y : ℕ) → Broadcastable m b t n i e v lives → 64 ≤ y
       → Settling t n i w lives × (64 ≤ y) × Tellable w × (w .cast .purpose ≤ 3)
@@ -228,5 +228,5 @@ module _ (m : Marks) (b : List ℕ) (e : Event) (v w : Version) (s : ℕ) (es : 
       → Acted (broadcasts (decodeBooks m b) e v (othersOf (v .id) (decode t))) t y u z r
   unfolding broadcasts
   cast-acted t y u z r a =
-      acted-via (λ (x : Version). broadcastOf x (othersOf (x .id) (decode t))) (opened (selectedFor (decodeBooks m b) (v .id .tn .0)) e v) w _ t y u z r opened-is
-      (ap (λ (k : Id). broadcastOf (opened (selectedFor (decodeBooks m b) (v .id .tn .0)) e v) (othersOf k (decode t))) (sym (opened-id _ e v))) a
+      acted-via (λ (x : Version). broadcastOf x (othersOf (x .id) (decode t))) (opened (selectedFor (decodeBooks m b) (v .id .tn)) e v) w _ t y u z r opened-is
+      (ap (λ (k : Id). broadcastOf (opened (selectedFor (decodeBooks m b) (v .id .tn)) e v) (othersOf k (decode t))) (sym (opened-id _ e v))) a

@@ -77,8 +77,8 @@ pub record Broadcastable (m : Marks) (b : List ℕ) (t : List Version) (n i : �
   pub stands : versionAt t i ≡ v
   pub live : Found t lives (first live (othersOf (v .id) t))
   pub rows : All (Brings Row) (broadcasts (decodeBooks m b) e v (othersOf (v .id) t) .does)
-  pub told : Tellable (opened (selectedFor (decodeBooks m b) (v .id .tn .0)) e v)
-  pub few : opened (selectedFor (decodeBooks m b) (v .id .tn .0)) e v .cast .purpose ≤ 3
+  pub told : Tellable (opened (selectedFor (decodeBooks m b) (v .id .tn)) e v)
+  pub few : opened (selectedFor (decodeBooks m b) (v .id .tn)) e v .cast .purpose ≤ 3
 
 -- an accepted event of kinds 3 to 10 and 13 to 15 for v, which stands at place i
 pub record Manageable (m : Marks) (b : List ℕ) (t : List Version) (n i : ℕ) (e : Event) (v : Version) (lives : Seen) : Type 0 where
@@ -87,8 +87,8 @@ pub record Manageable (m : Marks) (b : List ℕ) (t : List Version) (n i : ℕ) 
   pub stands : versionAt t i ≡ v
   pub live : Found t lives (first live (othersOf (v .id) t))
   pub rows : All (Brings Row) (manages (decodeBooks m b) e v (othersOf (v .id) t) .does)
-  pub told : isBroadcast (e .kind) ≡ true → Tellable (opened (selectedFor (decodeBooks m b) (v .id .tn .0)) e v)
-  pub few : isBroadcast (e .kind) ≡ true → opened (selectedFor (decodeBooks m b) (v .id .tn .0)) e v .cast .purpose ≤ 3
+  pub told : isBroadcast (e .kind) ≡ true → Tellable (opened (selectedFor (decodeBooks m b) (v .id .tn)) e v)
+  pub few : isBroadcast (e .kind) ≡ true → opened (selectedFor (decodeBooks m b) (v .id .tn)) e v .cast .purpose ≤ 3
 
 -- a create that nothing refuses, over the survey f of its number
 pub record Creatable (t : List Version) (n cap : ℕ) (e : Event) (f : Facts) : Type 0 where

@@ -174,7 +174,8 @@ fn broadcast(
     requires { ⌜ Broadcastable marks (now books) (decode (now table)) n i e v lives × (64 ≤ placesIn (now tray)) ⌝ }
     ensures { λ r. ⌜ Acted (broadcasts (decodeBooks marks (now (books .entry))) e v (othersOf (v .id) (decode (now (table .entry))))) (now (table .entry)) (now (tray .entry)) (now (table .exit)) (now (tray .exit)) r ⌝ }
 {
-    let s = selection::selected(marks, books, v.id.tn.0 / 10000);
+    let tn = v.id.tn;
+    let s = selection::selected(marks, books, books::code_of(tn));
     let w = opening::opened(s, e, v);
     put_broadcast(table, n, i, w, lives, tray)
 }

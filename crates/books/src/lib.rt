@@ -1,6 +1,8 @@
 // The books as bytes, and what they say of codes and pairs. They are only read. [B6, D6]
 ghost use mathlib.Core.Path.{_≡_};
 ghost use lib.ListN.{length};
+use model::Tn;
+ghost use Rattle.model.specs.Numbers.{codeOf};
 ghost use Rattle.model.specs.declared.Marks.{Marks};
 ghost use Rattle.model.specs.Books.{ownerOf, partnerOf};
 ghost use Rattle.books.specs.Packed.{bookBytes, decodeBooks};
@@ -16,6 +18,13 @@ pub const FILTERS_AT: usize = 4104;
 pub const SPLITS_AT: usize = 8200;
 
 pub const SPLIT_PLACES: usize = 64;
+
+// The code of a TN: its first six digits. An LRN has none here. [N2, N3]
+pub fn code_of(tn: Tn) -> u64
+    ensures { λ r. ⌜ r ≡ codeOf tn ⌝ }
+{
+    tn.0 / 10000
+}
 
 // The owner of a code, or 0 where it is not listed: a free place says 0.
 pub fn owner(books: &[u8], code: u64) -> u8

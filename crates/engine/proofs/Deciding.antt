@@ -90,10 +90,10 @@ module _ (m : Marks) (b : List ℕ) (most : ℕ) (t : List ℕ) (n : ℕ) (e : E
 
 -- ---- creates
 module _ (m : Marks) (b : List ℕ) (t : List ℕ) (n : ℕ) (e : Event) (f : Facts) (st : SoundTable t n) (sv : Surveyed (decode t) (nameIn e) f) (k : isCreate (e .kind) ≡ true) where
-  pub create-out : (most : ℕ) (gone : Bool) (owner : ℕ) (free : Bool) (o : Outcome) → gone ≡ absentIn m e → owner ≡ ownerOf (decodeBooks m b) (codeOf (e .tn .0)) → free ≡ ltb n (rowsIn t)
+  pub create-out : (most : ℕ) (gone : Bool) (code owner : ℕ) (free : Bool) (o : Outcome) → gone ≡ absentIn m e → code ≡ codeOf (e .tn) → owner ≡ ownerOf (decodeBooks m b) code → free ≡ ltb n (rowsIn t)
       → o ≡ createFor e gone owner f free → o ≡ judge (refuses (givenTo m b most t e)) (orderOf (e .kind))
-  create-out most gone owner free o p q r s =
-      s ∙ rw (p, q, r, ← st .count) (create-judged (decode t) (givenTo m b most t e) f refl sv k)
+  create-out most gone code owner free o p c q r s =
+      s ∙ rw (p, q, c, r, ← st .count) (create-judged (decode t) (givenTo m b most t e) f refl sv k)
 
   pub creatable : wellFormed e ≡ true → isDone (judge (refuses (givenTo m b 0 t e)) (orderOf (e .kind))) ≡ true → rule (givenTo m b 0 t e) ≡ accepted (givenTo m b 0 t e)
       → Creatable (decode t) n (rowsIn t) e f

@@ -195,7 +195,7 @@ window-mail e v =
 
 broadcasts-mail : (bk : Books) (e : Event) (v : Version) (others : List Version) → Mails (broadcasts bk e v others)
 unfolding broadcasts
-broadcasts-mail bk e v others = record { fit = λ h. broadcast-fits (opened (selectedFor bk (v .id .tn .0)) e v) (head-of h) }
+broadcasts-mail bk e v others = record { fit = λ h. broadcast-fits (opened (selectedFor bk (v .id .tn)) e v) (head-of h) }
 
 manages-mail : (bk : Books) (e : Event) (v : Version) (others : List Version) → Mails (manages bk e v others)
 unfolding manages

@@ -176,8 +176,8 @@ module _ (m : Marks) (b : List ℕ) (most : ℕ) (t : List ℕ) (n : ℕ) (e : E
         stands = asked-stands m b most t n e f st sv i v q;
         live = asked-lives m b most t n e f st sv i v q;
         rows = subst (λ (x : Result). All (Brings Row) (x .does)) (is ∙ other-accepts) (rule-rows m b most t n e few st h);
-        told = λ _. opened-tellable (selectedFor (decodeBooks m b) (v .id .tn .0)) e v h r;
-        few = λ _. opened-purpose (selectedFor (decodeBooks m b) (v .id .tn .0)) e v r;
+        told = λ _. opened-tellable (selectedFor (decodeBooks m b) (v .id .tn)) e v h r;
+        few = λ _. opened-purpose (selectedFor (decodeBooks m b) (v .id .tn)) e v r;
       }
 
 -- ---- the ranges of kinds

@@ -33,8 +33,10 @@ fn on_create(
     requires { ⌜ Ready marks (now books) e (placesIn (now tray)) × Surveyed (decode (now table)) (nameIn e) f × (isCreate (e .kind) ≡ true) ⌝ }
     ensures { λ r. ⌜ ((most : ℕ) → Did (rule (givenTo marks (now (books .entry)) most (now (table .entry)) e)) (now (table .entry)) (now (tray .entry)) (now (table .exit)) (now (tray .exit)) r) ⌝ }
 {
+    let tn = e.tn;
+    let code = books::code_of(tn);
     let gone = judge::absent(marks, e);
-    let owner = books::owner(books, e.tn.0 / 10000);
+    let owner = books::owner(books, code);
     let free = n < table.len() / ROW;
     let o = judge::create(e, gone, owner, f, free);
     let outcome = outcomes::number(o);

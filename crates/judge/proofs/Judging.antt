@@ -85,7 +85,7 @@ no-due e (some v) h = rw h
 
 module _ (t : List Version) (g : Given) (f : Facts) (rows : g .rows ≡ rowsOf itself (g .event .tn .0) t) (s : Surveyed t (nameIn (g .event)) f) where
   pub create-judged : isCreate (g .event .kind) ≡ true
-      → createFor (g .event) (absent (g .books) (g .event)) (ownerOf (g .books) (codeOf (g .event .tn .0))) f (g .free) ≡ judge (refuses g) (orderOf (g .event .kind))
+      → createFor (g .event) (absent (g .books) (g .event)) (ownerOf (g .books) (codeOf (g .event .tn))) f (g .free) ≡ judge (refuses g) (orderOf (g .event .kind))
   unfolding createFor early busy notCurrent unfit exhausted full currentFor
   create-judged k =
       let c = create-answer (g .event .kind) k in

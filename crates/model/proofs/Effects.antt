@@ -132,7 +132,7 @@ modest-manages bk e v others =
     (modest-cond (eqb (e .kind) 7) (modest-accept _ _ (omega arith))
     (modest-cond (eqb (e .kind) 8) (modest-accept _ _ (omega arith))
     (modest-cond (eqb (e .kind) 13) (modest-cond (marks v) (modest-accept _ _ (omega arith)) (modest-accept _ _ (omega arith)))
-    (modest-cond (isBroadcast (e .kind)) (modest-accept _ _ (broadcast-few (opened (selectedFor bk (v .id .tn .0)) e v))) (modest-accept _ _ (omega arith)))))))
+    (modest-cond (isBroadcast (e .kind)) (modest-accept _ _ (broadcast-few (opened (selectedFor bk (v .id .tn)) e v))) (modest-accept _ _ (omega arith)))))))
 
 modest-accepted : (g : Given) → Modest (accepted g)
 unfolding accepted

@@ -171,7 +171,7 @@ module _ (lineOf : ℕ → ℕ) (e : Event) where
   fine-broadcasts : (bk : Books) (v : Version) (others : List Version) → Own v → Rows lineOf L others → Fine lineOf L (broadcasts bk e v others)
   unfolding broadcasts opened
   fine-broadcasts bk v others h k =
-      let w : Version = opened (selectedFor bk (v .id .tn .0)) e v in
+      let w : Version = opened (selectedFor bk (v .id .tn)) e v in
       fine-settles lineOf L w others (downloads w) h k
       (all-map (λ (p : ℕ). Unit {0}) (downloadTo w) (all-any (members (w .cast .waiting))) (λ a q. h))
 

@@ -36,6 +36,7 @@ use Rattle.model.proofs.SoundFresh.{row-fresh}
 use Rattle.model.proofs.SoundLines.{Line, one, all-find, found-self, count-found, count-put, count-strike, count-add, first-none, any-none, line-put}
 use Rattle.model.proofs.SoundLaws.{Keeps, Ground, keeps-if, keeps-settled}
 use Rattle.model.specs.declared.Id.{Id}
+use Rattle.model.specs.declared.Tn.{Tn}
 use Rattle.model.specs.declared.Event.{Event}
 use Rattle.model.specs.declared.Version.{Version}
 use Rattle.model.specs.declared.Message.{Message}
@@ -69,7 +70,7 @@ opened-worked : (s : ℕ) (e : Event) (v : Version) → worked (opened s e v) �
 unfolding opened
 opened-worked s e v = refl
 
-set-selected : (bk : Books) (tn : ℕ) → isSet (selectedFor bk tn) ≡ true
+set-selected : (bk : Books) (tn : Tn) → isSet (selectedFor bk tn) ≡ true
 unfolding selectedFor
 set-selected bk tn = set-mask (selects bk (codeOf tn))
 
@@ -204,10 +205,10 @@ module _ (lineOf : ℕ → ℕ) (e : Event) (formed : wellFormed e ≡ true) (r 
         keeps-settled K r v (g .rising) (g .rows) (g .line) h alone W same _ (casting-opened S set e formed v row k al) line-opened (purpose-lasts S set e formed v row k al)
       where
         S : ℕ
-        S = selectedFor bk (v .id .tn .0)
+        S = selectedFor bk (v .id .tn)
 
         set : isSet S ≡ true
-        set = set-selected bk (v .id .tn .0)
+        set = set-selected bk (v .id .tn)
 
         W : Version
         W = opened S e v

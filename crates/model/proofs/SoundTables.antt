@@ -149,14 +149,14 @@ adds-manages G v =
 
     go : (a b c d f m x : Bool) → adds (cond a (modifies e v) (cond b (turns (cancelled e v)) (cond c (turns (acknowledged e v)) (cond d (turns (resolved e v)) (cond f
         (cond m (accept (windowTold (windowMarked e v)) (put (windowMarked e v) ∷ [])) (turns (windowTurned e v)))
-        (cond x (broadcastOf (opened (selectedFor (G .books) (v .id .tn .0)) e v) (rest G)) (purges v)))))) .does) ≡ 0
+        (cond x (broadcastOf (opened (selectedFor (G .books) (v .id .tn)) e v) (rest G)) (purges v)))))) .does) ≡ 0
     go true b c d f m x = refl
     go false true c d f m x = refl
     go false false true d f m x = refl
     go false false false true f m x = refl
     go false false false false true true x = refl
     go false false false false true false x = refl
-    go false false false false false m true = omega (arith, adds-settles (λ (n : ℕ). n) 0 (opened (selectedFor (G .books) (v .id .tn .0)) e v) (rest G))
+    go false false false false false m true = omega (arith, adds-settles (λ (n : ℕ). n) 0 (opened (selectedFor (G .books) (v .id .tn)) e v) (rest G))
     go false false false false false m false = refl
 
 adds-answers : (G : Given) (v : Version) → adds (answers (G .most) (G .event) v (rest G) .does) ≡ 0

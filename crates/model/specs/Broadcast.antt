@@ -60,4 +60,4 @@ abbrev pub broadcastOf : Version → List Version → Result
 broadcastOf w others = accept (downloads w ++ settlingTold w) (put (settled w) ∷ settles w others)
 
 unfoldable pub broadcasts : Books → Event → Version → List Version → Result
-broadcasts bk e v others = broadcastOf (opened (selectedFor bk (v .id .tn .0)) e v) others
+broadcasts bk e v others = broadcastOf (opened (selectedFor bk (v .id .tn)) e v) others

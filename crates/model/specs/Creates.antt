@@ -34,7 +34,7 @@ currentOr owner none = owner
 currentOr owner (some v) = v .new .provider
 
 unfoldable pub currentFor : Books → Event → List Version → ℕ
-currentFor bk e r = currentOr (ownerOf bk (codeOf (e .tn .0))) (liveOne r)
+currentFor bk e r = currentOr (ownerOf bk (codeOf (e .tn))) (liveOne r)
 
 -- ---- the values of a side
 

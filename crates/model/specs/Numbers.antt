@@ -3,14 +3,15 @@
 use Prim.Native.Nat.{ℕ, _/_, _%_, _^_}
 use mathlib.Core.Bool.{Bool, _&&_}
 use lib.Dec.{eqb, ltb, leb}
+use Rattle.model.specs.declared.Tn.{Tn}
 
 -- A TN and an LRN are ten-digit numbers whose first and fourth digits are 2 to 9. [N1]
 abbrev pub tenDigits : ℕ → Bool
 tenDigits x = leb 2000000000 x && ltb x 10000000000 && leb 2 (x / 1000000 % 10)
 
--- The code is the first six digits. [N3]
-abbrev pub codeOf : ℕ → ℕ
-codeOf tn = tn / 10000
+-- The code is the first six digits; of an LRN none is asked for. [N2, N3]
+abbrev pub codeOf : Tn → ℕ
+codeOf tn = tn .0 / 10000
 
 -- the first six digits of a TN that may be
 abbrev pub isCode : ℕ → Bool

@@ -28,7 +28,7 @@ absent bk e = missing bk (e .sender) || missing bk (e .other)
 
 -- A create for a code not listed. [O4]
 abbrev pub unlisted : Books → Event → Bool
-unlisted bk e = eqb (ownerOf bk (codeOf (e .tn .0))) 0
+unlisted bk e = eqb (ownerOf bk (codeOf (e .tn))) 0
 
 -- Too early. Kinds 11, 12: time before the broadcast start. [R1] Others: time before the largest stamp of any version of the TN; for activation
 -- also before the new due date. [R2]

@@ -6,6 +6,7 @@ use lib.Dec.{eqb}
 use Rattle.systems.specs.Set.{maskOf}
 use Rattle.model.specs.Numbers.{codeOf}
 use Rattle.model.specs.Books.{Books, present, runs, partnerOf, filters}
+use Rattle.model.specs.declared.Tn.{Tn}
 
 -- A provider is skipped exactly when one of its filters names the TN's code and, if that code stands in a split pair, another names the
 -- partner. By filters alone: also a provider without a Local SMS can be. [D5]
@@ -39,5 +40,5 @@ abbrev pub selects : Books → ℕ → ℕ → Bool
 selects bk code p = isSelected (classOf bk code p)
 
 -- the set of the selected
-unfoldable pub selectedFor : Books → ℕ → ℕ
+unfoldable pub selectedFor : Books → Tn → ℕ
 selectedFor bk tn = maskOf (selects bk (codeOf tn)) 63

@@ -1,4 +1,5 @@
 // What a version must be to come next: the order, and what the versions of one number may have at most once.
+use model::Tn;
 use model::Version;
 ghost use mathlib.Core.Path.{_≡_};
 ghost use mathlib.Core.Bool.{cond};
@@ -68,20 +69,21 @@ fn marks(v: Version) -> u64
 }
 
 // What the versions of this number had so far: nothing, if it is another number than the last one's.
-fn had_of(s: Seen, tn: u64) -> u64
+fn had_of(s: Seen, tn: Tn) -> u64
     requires { ⌜ s .had < 8 ⌝ }
-    ensures { λ r. ⌜ (r ≡ cond (eqb tn (s .last / 65536)) (s .had) 0) × (r < 8) ⌝ }
+    ensures { λ r. ⌜ (r ≡ cond (eqb (tn .0) (s .last / 65536)) (s .had) 0) × (r < 8) ⌝ }
 {
-    if tn == s.last / 65536 { s.had } else { 0 }
+    if tn.0 == s.last / 65536 { s.had } else { 0 }
 }
 
 pub fn follow(s: Seen, v: Version) -> Next
     requires { ⌜ (v .id .tn .0 < 17179869184) × (s .had < 8) ⌝ }
     ensures { λ n. ⌜ (joinedBy n ≡ joinOf (groupOf s) v) × Few n ⌝ }
 {
-    let last = v.id.tn.0 * 65536 + v.id.number as u64;
+    let tn = v.id.tn;
+    let last = tn.0 * 65536 + v.id.number as u64;
     let has = marks(v);
-    let had = had_of(s, v.id.tn.0);
+    let had = had_of(s, tn);
     if s.last < last {
         if had & has == 0 {
             return Next::Go(Seen {

@@ -1,5 +1,6 @@
 // The place of a name among the used rows, by halves.
 use model::Id;
+use model::Tn;
 use words::ROW;
 ghost use mathlib.Core.Path.{_≡_};
 ghost use mathlib.Core.Bool.{cond};
@@ -54,13 +55,13 @@ fn lower(t: &[u8], n: usize, k: u64) -> usize
 }
 
 // The place of the first of n rows from i on whose number is above tn, or n.
-fn behind(t: &[u8], n: usize, tn: u64, i: usize) -> usize
-    requires { ⌜ (n * ROW ≤ length (now t)) × (i ≤ lowerOf ((tn + 1) * 65536) (keysOf n (now t))) ⌝ }
-    ensures { λ r. ⌜ r ≡ lowerOf ((tn + 1) * 65536) (keysOf n (now (t .entry))) ⌝ }
+fn behind(t: &[u8], n: usize, tn: Tn, i: usize) -> usize
+    requires { ⌜ (n * ROW ≤ length (now t)) × (i ≤ lowerOf ((tn .0 + 1) * 65536) (keysOf n (now t))) ⌝ }
+    ensures { λ r. ⌜ r ≡ lowerOf ((tn .0 + 1) * 65536) (keysOf n (now (t .entry))) ⌝ }
 {
     let mut at = i;
     while at < n {
-        if tn < first(t, at) / 1073741824 {
+        if tn.0 < first(t, at) / 1073741824 {
             return at;
         }
         at += 1;
@@ -75,12 +76,12 @@ pub struct Span {
 }
 
 // The versions of a number are few: the place behind them is found from the first on.
-pub fn versions(t: &[u8], n: usize, tn: u64) -> Span
+pub fn versions(t: &[u8], n: usize, tn: Tn) -> Span
     requires { ⌜ SoundTable (now t) n ⌝ }
-    requires { ⌜ tn < 17179869184 ⌝ }
-    ensures { λ r. ⌜ (r .from ≡ placeIn (tn * 65536) (decode (now (t .entry)))) × (r .to ≡ placeIn ((tn + 1) * 65536) (decode (now (t .entry)))) ⌝ }
+    requires { ⌜ tn .0 < 17179869184 ⌝ }
+    ensures { λ r. ⌜ (r .from ≡ placeIn (tn .0 * 65536) (decode (now (t .entry)))) × (r .to ≡ placeIn ((tn .0 + 1) * 65536) (decode (now (t .entry)))) ⌝ }
 {
-    let from = lower(t, n, tn * 65536);
+    let from = lower(t, n, tn.0 * 65536);
     let to = behind(t, n, tn, from);
     Span { from, to }
 }

@@ -199,7 +199,8 @@ pub fn number(t: &[u8], n: usize, k: Id) -> Facts
     requires { ⌜ k .tn .0 < 17179869184 ⌝ }
     ensures { λ r. ⌜ Surveyed (decode (now (t .entry))) k r ⌝ }
 {
-    let at = find::versions(t, n, k.tn.0);
+    let tn = k.tn;
+    let at = find::versions(t, n, tn);
     let s = over(t, n, empty(), k, at.from, at.to);
     shown(t, n, s)
 }

@@ -19,12 +19,12 @@ marks-requires c κs = search needs
 had-of-requires : tie.Need-had-of-requires
 had-of-requires c κs = search needs
 
-add-t11 : tie.Need-add-t11
-add-t11 c = search needs
+add-t12 : tie.Need-add-t12
+add-t12 c = search needs
 
 returns : tie.Need-returns
 returns c =
-    let d = c .before .before .before .before .before .before .before in
+    let d = c .before .before .before .before .before .before .before .before in
     let h = c .before .before .before .had-of in
     let m = c .before .before .before .before .marks in (
       follow-go (d .args .s) (d .args .v) (d .pre .1) (h .result) (m .result) (h .ensures .0) (m .ensures .0) (c .before .if1 .taken) (c .if2 .taken),
@@ -33,14 +33,14 @@ returns c =
 
 returns-2 : tie.Need-returns-2
 returns-2 c =
-    let d = c .before .before .before .before .before .before .before in
+    let d = c .before .before .before .before .before .before .before .before in
     let h = c .before .before .before .had-of in
     let m = c .before .before .before .before .marks in
     (follow-twice (d .args .s) (d .args .v) (d .pre .1) (h .result) (m .result) (h .ensures .0) (m .ensures .0) (c .if2 .left), tt)
 
 returns-3 : tie.Need-returns-3
 returns-3 c =
-    let d = c .before .before .before .before .before .before in
+    let d = c .before .before .before .before .before .before .before in
     let h = c .before .before .had-of in
     let m = c .before .before .before .marks in
     (follow-late (d .args .s) (d .args .v) (d .pre .1) (h .result) (m .result) (h .ensures .0) (m .ensures .0) (c .if1 .left), tt)
@@ -54,7 +54,7 @@ follow-spec =
     add-last
     marks-requires
     had-of-requires
-    add-t11
+    add-t12
     returns
     returns-2
     returns-3)

@@ -6,7 +6,7 @@ use Rattle.scan.proofs.join.had_of.Statement.{statement}
 use Rattle.scan.proofs.join.had_of.Tie as tie
 
 returns : tie.Need-returns
-returns c = (rw (eq-eqb _ _ (c .if1 .taken)), c .before .before .pre)
+returns c = (rw (eq-eqb _ _ (c .if1 .taken)), c .before .before .before .pre)
 
 returns-2 : tie.Need-returns-2
 returns-2 c = (rw (ne-eqb _ _ (c .if1 .left)), omega arith)

@@ -9,7 +9,7 @@ use Rattle.table.proofs.find.behind.Statement.{statement}
 use Rattle.table.proofs.find.behind.Tie as tie
 
 abbrev Inv-loop : tie.InvT-loop
-Inv-loop t n tn i at₀ at = at ≤ lowerOf ((tn + 1) * 65536) (keysOf n t)
+Inv-loop t n tn i at₀ at = at ≤ lowerOf ((tn .0 + 1) * 65536) (keysOf n t)
 
 abbrev μ-loop : tie.MeasureT-loop
 μ-loop t n tn i at₀ at = n - at
@@ -22,13 +22,13 @@ first-requires c κs = omega arith
 
 returns : tie.Need-returns Inv-loop μ-loop
 returns c =
-    let l = c .before .before .before in
+    let l = c .before .before .before .before in
     let a = l .before .before .args in
     let xs = keysOf (a .n) (a .t .now) in
     let at = l .loop .at in
     let long : length xs ≡ a .n = keys-length (a .n) (a .t .now) in
     let here : getD xs at 0 ≡ keyAt (a .t .now) at = keys-at (a .n) (a .t .now) at (omega arith) in
-    lower-here ((a .tn + 1) * 65536) xs at (l .loop .inv) (omega arith) (omega arith)
+    lower-here ((a .tn .0 + 1) * 65536) xs at (l .loop .inv) (omega arith) (omega arith)
 
 add-at : tie.Need-add-at Inv-loop μ-loop
 add-at c = omega arith
@@ -38,13 +38,13 @@ loop-less c = omega arith
 
 loop-again : tie.Need-loop-again Inv-loop μ-loop
 loop-again c =
-    let l = c .before .before .before in
+    let l = c .before .before .before .before in
     let a = l .before .before .args in
     let xs = keysOf (a .n) (a .t .now) in
     let at = l .loop .at in
     let long : length xs ≡ a .n = keys-length (a .n) (a .t .now) in
     let here : getD xs at 0 ≡ keyAt (a .t .now) at = keys-at (a .n) (a .t .now) at (omega arith) in
-    let up = lower-up ((a .tn + 1) * 65536) xs at (l .loop .inv) (omega arith) (omega arith) in
+    let up = lower-up ((a .tn .0 + 1) * 65536) xs at (l .loop .inv) (omega arith) (omega arith) in
     omega (arith, up)
 
 returns-2 : tie.Need-returns-2 Inv-loop μ-loop
@@ -53,7 +53,7 @@ returns-2 c =
     let a = l .before .before .args in
     let xs = keysOf (a .n) (a .t .now) in
     let long : length xs ≡ a .n = keys-length (a .n) (a .t .now) in
-    let most : lowerOf ((a .tn + 1) * 65536) xs ≤ length xs = lower-le ((a .tn + 1) * 65536) xs in
+    let most : lowerOf ((a .tn .0 + 1) * 65536) xs ≤ length xs = lower-le ((a .tn .0 + 1) * 65536) xs in
     omega (arith, l .loop .inv)
 
 pub behind-spec : {M : Type 1} → statement M

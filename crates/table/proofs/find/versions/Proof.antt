@@ -14,22 +14,22 @@ mul-lower c = search needs
 
 lower-requires : tie.Need-lower-requires
 lower-requires c κs =
-    let st = c .before in
+    let st = c .before .before in
     (omega (arith, st .pre .0 .whole, st .pre .0 .room), (sound-rises (st .args .t .now) (st .args .n) (st .pre .0), omega arith))
 
 behind-requires : tie.Need-behind-requires
 behind-requires c κs =
-    let st = c .before .before in
+    let st = c .before .before .before in
     let xs = keysOf (st .args .n) (st .args .t .now) in (
       omega (arith, st .pre .0 .whole, st .pre .0 .room),
-      subst (λ (i : ℕ). i ≤ lowerOf ((st .args .tn + 1) * 65536) xs) (sym (c .lower .ensures)) (lower-more (st .args .tn * 65536) ((st .args .tn + 1) * 65536) (omega arith) xs),
+      subst (λ (i : ℕ). i ≤ lowerOf ((st .args .tn .0 + 1) * 65536) xs) (sym (c .lower .ensures)) (lower-more (st .args .tn .0 * 65536) ((st .args .tn .0 + 1) * 65536) (omega arith) xs),
     )
 
 returns : tie.Need-returns
 returns c =
-    let st = c .before .before .before in
+    let st = c .before .before .before .before in
     let at = sound-place (st .args .t .now) (st .args .n) (st .pre .0) in
-    (c .before .lower .ensures ∙ at (st .args .tn * 65536), c .behind .ensures ∙ at ((st .args .tn + 1) * 65536))
+    (c .before .lower .ensures ∙ at (st .args .tn .0 * 65536), c .behind .ensures ∙ at ((st .args .tn .0 + 1) * 65536))
 
 pub versions-spec : {M : Type 1} → statement M
 versions-spec = tie.close (tie.spec mul-lower lower-requires behind-requires returns)

@@ -19,7 +19,7 @@ empty-requires c κs = search needs
 
 over-requires : tie.Need-over-requires
 over-requires c κs =
-    let st = c .before .before .before in
+    let st = c .before .before .before .before in
     let vs = decode (st .args .t .now) in
     let p = number-places vs (st .args .k .tn .0) in
     let e = c .before .versions .ensures in
@@ -29,14 +29,14 @@ over-requires c κs =
 
 shown-requires : tie.Need-shown-requires
 shown-requires c κs =
-    let st = c .before .before .before .before in
+    let st = c .before .before .before .before .before in
     let vs = decode (st .args .t .now) in
     let e = c .before .before .versions .ensures in
     (st .pre .0, subst (Placed (c .over .result)) (st .pre .0 .count) (number-placed vs (st .args .k) _ _ _ _ (e .0) (e .1) (c .before .empty .ensures) (c .over .ensures)))
 
 returns : tie.Need-returns
 returns c =
-    let st = c .before .before .before .before .before in
+    let st = c .before .before .before .before .before .before in
     let vs = decode (st .args .t .now) in
     let g = sound-good (st .args .t .now) (st .args .n) (st .pre .0) in
     let e = c .before .before .before .versions .ensures in
