@@ -8,3 +8,4 @@ pub mod Steps
 pub mod Asked
 pub mod Using
 pub mod OneAnswer
+pub mod Applied

@@ -56,12 +56,13 @@ summed-one t r s u l f g = λ x. record {
   live = found-one t r (s .live) (u .live) _ (f .live) (g .live) x;
 }
 
-pub surveyed-one : (rows : ℕ) (t : List Version) → soundTable itself rows t ≡ true → (k : Id) (f g : Facts) → Surveyed t k f → Surveyed t k g → f ≡ g
-surveyed-one rows t s k f g a b =
-    let r : RisingFrom 0 t = table-good rows t s .rises in
+pub surveyed-one : (rows : ℕ) (t : List Version) → soundTable itself rows t ≡ true → (r : List Version) (k : Id) (f g : Facts)
+    → Surveyed t r k f → Surveyed t r k g → f ≡ g
+surveyed-one rows t s r k f g a b =
+    let up : RisingFrom 0 t = table-good rows t s .rises in
     λ x. record {
-      all = summed-one t r (f .all) (g .all) _ (a .all) (b .all) x;
-      rest = summed-one t r (f .rest) (g .rest) _ (a .rest) (b .rest) x;
-      worked = found-one t r (f .worked) (g .worked) _ (a .worked) (b .worked) x;
-      asked = found-one t r (f .asked) (g .asked) _ (a .asked) (b .asked) x;
+      all = summed-one t up (f .all) (g .all) _ (a .all) (b .all) x;
+      rest = summed-one t up (f .rest) (g .rest) _ (a .rest) (b .rest) x;
+      worked = found-one t up (f .worked) (g .worked) _ (a .worked) (b .worked) x;
+      asked = found-one t up (f .asked) (g .asked) _ (a .asked) (b .asked) x;
     }

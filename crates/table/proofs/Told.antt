@@ -65,7 +65,7 @@ module _ (t : List Version) (k : Id) (from to : ℕ) (h : from ≤ to) (l : to �
         asked = subst (λ (s : Spot). Within s (length t)) (sym (sum-asked k noSum from r)) (spot-within t (named k) r from f);
       }
 
-  pub sum-told : AllSound t → RisingFrom 0 t → slice from to t ≡ rowsOf itself (k .tn .0) t → Surveyed t k (factsBy t (sumOver k noSum from (slice from to t)))
+  pub sum-told : AllSound t → RisingFrom 0 t → slice from to t ≡ rowsOf itself (k .tn .0) t → Surveyed t (rowsOf itself (k .tn .0) t) k (factsBy t (sumOver k noSum from (slice from to t)))
   sum-told a r e =
       let s : List Version = slice from to t in
       let g : Lies t s from = slice-lies t from to h l in
@@ -89,7 +89,7 @@ pub number-places : (t : List Version) (n : ℕ) → (placeIn (n * 65536) t ≤ 
 number-places t n = (place-up t (n * 65536) ((n + 1) * 65536) (omega arith), place-le ((n + 1) * 65536) t)
 
 pub number-told : (t : List Version) (k : Id) → AllSound t → RisingFrom 0 t
-    → Surveyed t k (factsBy t (sumOver k noSum (placeIn (k .tn .0 * 65536) t) (slice (placeIn (k .tn .0 * 65536) t) (placeIn ((k .tn .0 + 1) * 65536) t) t)))
+    → Surveyed t (rowsOf itself (k .tn .0) t) k (factsBy t (sumOver k noSum (placeIn (k .tn .0 * 65536) t) (slice (placeIn (k .tn .0 * 65536) t) (placeIn ((k .tn .0 + 1) * 65536) t) t)))
 number-told t k a r =
     let p = number-places t (k .tn .0) in
     sum-told t k (placeIn (k .tn .0 * 65536) t) (placeIn ((k .tn .0 + 1) * 65536) t) (p .0) (p .1) a r (rows-between (k .tn .0) 0 t a r)
@@ -105,5 +105,5 @@ module _ (t : List Version) (k : Id) (from to : ℕ) (z s : Sum)
       let b = number-places t (k .tn .0) in
       subst (λ (x : Sum). Placed x (length t)) (sym sum-is) (sum-placed t k (placeIn (k .tn .0 * 65536) t) (placeIn ((k .tn .0 + 1) * 65536) t) (b .0) (b .1))
 
-  pub number-shown : AllSound t → RisingFrom 0 t → Surveyed t k (factsBy t s)
-  number-shown a r = subst (λ (x : Sum). Surveyed t k (factsBy t x)) (sym sum-is) (number-told t k a r)
+  pub number-shown : AllSound t → RisingFrom 0 t → Surveyed t (rowsOf itself (k .tn .0) t) k (factsBy t s)
+  number-shown a r = subst (λ (x : Sum). Surveyed t (rowsOf itself (k .tn .0) t) k (factsBy t x)) (sym sum-is) (number-told t k a r)

@@ -7,6 +7,8 @@ use Prim.Native.Nat.{ℕ, _<_}
 use Rattle.model.specs.declared.Version.{Version}
 use Rattle.model.specs.Table.{find}
 use Rattle.row.specs.Layout.{Small}
+use Rattle.verdict.specs.declared.Rows.{Rows}
+use Rattle.verdict.specs.declared.Rows.the-variants.{Nothing, Put, PutTwo, Add, Strike}
 use Rattle.table.specs.Survey.{versionAt}
 
 -- v may be put at place i of a table that says t, n versions: the version there has its name
@@ -20,3 +22,11 @@ pub record Fresh (t : List Version) (n rows : ℕ) (v : Version) : Type 0 where
   pub free : n < rows
   pub absent : find (v .id) t ≡ none
   pub small : Small v
+
+-- the rows may be changed in a table of so many rows that says t, n versions
+abbrev pub Applicable : List Version → ℕ → ℕ → Rows → Type 0
+Applicable t n rows Nothing = Unit {0}
+Applicable t n rows (Put i v) = Over t n i v
+Applicable t n rows (PutTwo i v j w) = Over t n i v × Over t n j w
+Applicable t n rows (Add v) = Fresh t n rows v
+Applicable t n rows (Strike i k) = (i < n) × (versionAt t i .id ≡ k)

@@ -10,7 +10,7 @@ use lib.ListN.{length, getD}
 use Rattle.model.specs.declared.Id.{Id}
 use Rattle.model.specs.declared.Version.{Version}
 use Rattle.model.specs.Basics.{any, first, largest}
-use Rattle.model.specs.Table.{rowsOf, find, others}
+use Rattle.model.specs.Table.{find, others}
 use Rattle.model.specs.Sound.{live, sends, worked}
 use Rattle.row.specs.Layout.{unpack}
 use Rattle.table.specs.declared.survey.Spot.{Spot}
@@ -21,7 +21,6 @@ use Rattle.table.specs.declared.survey.Seen.{Seen}
 use Rattle.table.specs.declared.survey.Seen.the-variants.{Nobody, One}
 use Rattle.table.specs.declared.survey.Summary.{Summary}
 use Rattle.table.specs.declared.survey.Facts.{Facts}
-use Rattle.scan.specs.Sound.{itself}
 
 -- ---- one version more
 
@@ -113,12 +112,12 @@ pub record Summed (t : List Version) (s : Summary) (r : List Version) : Type 0 w
   pub sending : s .sends ≡ any sends r
   pub live : Found t (s .live) (first live r)
 
--- the facts of the number of the name k in the table t
-pub record Surveyed (t : List Version) (k : Id) (f : Facts) : Type 0 where
-  pub all : Summed t (f .all) (rowsOf itself (k .tn .0) t)
-  pub rest : Summed t (f .rest) (others k (rowsOf itself (k .tn .0) t))
-  pub worked : Found t (f .worked) (first worked (rowsOf itself (k .tn .0) t))
-  pub asked : Found t (f .asked) (find k (rowsOf itself (k .tn .0) t))
+-- the facts of the versions r, which stand in the table t, with the one of the name k and the others
+pub record Surveyed (t r : List Version) (k : Id) (f : Facts) : Type 0 where
+  pub all : Summed t (f .all) r
+  pub rest : Summed t (f .rest) (others k r)
+  pub worked : Found t (f .worked) (first worked r)
+  pub asked : Found t (f .asked) (find k r)
 
 -- each place of a sum is a place of n versions
 pub record Placed (s : Sum) (n : ℕ) : Type 0 where

@@ -6,8 +6,9 @@ use scan::join;
 ghost use mathlib.Core.Path.{_≡_};
 ghost use Prim.Native.Nat.{_+_, _*_, _≤_, _<_, max};
 ghost use lib.Seq.{slice};
+ghost use Rattle.model.specs.Table.{rowsOf};
 ghost use Rattle.rows.specs.Table.{decode};
-ghost use Rattle.scan.specs.Sound.{SoundTable};
+ghost use Rattle.scan.specs.Sound.{SoundTable, itself};
 ghost use Rattle.table.specs.Survey.{firstBy, partWith, sumWith, sumOver, nothing, noSum, Within, seenAt, summaryBy, factsBy, Placed, Surveyed};
 
 // The place of the first version that passed a test.
@@ -197,7 +198,7 @@ fn empty() -> Sum
 pub fn number(t: &[u8], n: usize, k: Id) -> Facts
     requires { ⌜ SoundTable (now t) n ⌝ }
     requires { ⌜ k .tn .0 < 17179869184 ⌝ }
-    ensures { λ r. ⌜ Surveyed (decode (now (t .entry))) k r ⌝ }
+    ensures { λ r. ⌜ Surveyed (decode (now (t .entry))) (rowsOf itself (k .tn .0) (decode (now (t .entry)))) k r ⌝ }
 {
     let tn = k.tn;
     let at = find::versions(t, n, tn);

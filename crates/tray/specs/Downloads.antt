@@ -1,19 +1,23 @@
 -- The providers of a set, rising, as a loop over 1 to 63 meets them.
 -- Assumes nothing.
 use Prim.Native.Nat.{ℕ, zero, suc, _+_, _-_, _≤_, _<_}
-use mathlib.Core.Path.{_≡_, refl, sym, ap, ap₂, _∙_}
+use mathlib.Core.Path.{_≡_, refl, sym, ap, ap₂, _∙_, subst}
 use mathlib.Core.Bool.{Bool, true, false, cond}
 use mathlib.Core.List.{List, [], _∷_}
 use native.Mathlib.Nat.{add-zero, zero-add}
 use native.Mathlib.Decide.{le-ind}
 use native.Mathlib.Numerals.{add-one}
 use native.Mathlib.Omega.{arith}
-use lib.ListN.{length}
+use lib.Dec.{eqb}
+use lib.ListN.{length, length-map}
+use borrow.Author.Tests.{eqb-true, eqb-false}
 use Rattle.systems.specs.Set.{member, count}
+use Rattle.model.specs.Basics.{All, with}
 use Rattle.model.specs.Tray.{membersTo, members, downloadTo, downloads}
 use Rattle.model.specs.declared.Message.{Message}
 use Rattle.model.specs.declared.Version.{Version}
-use Rattle.tray.specs.Tray.{Small, placesIn, putMessage, putAll, toLocal, toLocals}
+use Rattle.verdict.specs.Verdict.{toLocal, toLocals}
+use Rattle.tray.specs.Tray.{Small, placesIn, putMessage, putAll}
 
 -- those of p + 1 to p + k that are in the set
 unfoldable pub membersFrom : ℕ → ℕ → ℕ → List ℕ
@@ -93,14 +97,36 @@ length-from s (suc k) p = go (member s (suc p)) refl (length-from s k (suc p))
 pub length-members : (s : ℕ) → length (members s) ≡ count s 63
 length-members s = omega (arith, ap length (members-above s), length-from s 63 0, count-none s)
 
+pub length-locals : (m : Message) (s : ℕ) → length (toLocals m (members s)) ≡ count s 63
+length-locals m s = length-map (members s) (toLocal m) ∙ length-members s
+
 -- ---- the steps of the loop
 
 -- there is room for the next
-pub room : (t u : List ℕ) (place at p s : ℕ) → p < 63 → member s (p + 1) ≡ true → at ≡ place + count s p → place + count s 63 ≤ placesIn t → length u ≡ length t → at < placesIn u
-room t u place at p s h e ha fits same = omega (arith, count-in s p e, count-le s (p + 1) 63 (omega arith))
+pub room : (t u : List ℕ) (m : Message) (place at p s : ℕ) → p < 63 → member s (p + 1) ≡ true → at ≡ place + count s p
+    → place + length (toLocals m (members s)) ≤ placesIn t → length u ≡ length t → at < placesIn u
+room t u m place at p s h e ha fits same = omega (arith, count-in s p e, count-le s (p + 1) 63 (omega arith), length-locals m s)
 
-pub small-local : (m r : Message) (p : ℕ) → Small m → p < 64 → r ≡ toLocal m p → Small r
-small-local m r p s h e = rw e (record { tn = s .tn; status = s .status; provider = h; sort = s .sort; lrn = s .lrn })
+-- the next one fits, since all do
+at-from : (m : Message) (s k p j : ℕ) → p ≤ j → j < p + k → member s (j + 1) ≡ true → All Small (toLocals m (membersFrom s k p)) → Small (toLocal m (j + 1))
+unfolding membersFrom
+at-from m s zero p j a b h l = absurd (omega arith)
+at-from m s (suc k) p j a b h l = go (eqb p j) refl (member s (suc p)) refl l (at-from m s k (suc p) j)
+  where
+    go : (x : Bool) → eqb p j ≡ x → (y : Bool) → member s (suc p) ≡ y → All Small (toLocals m (cond y (suc p ∷ membersFrom s k (suc p)) (membersFrom s k (suc p))))
+        → (suc p ≤ j → j < suc p + k → member s (j + 1) ≡ true → All Small (toLocals m (membersFrom s k (suc p))) → Small (toLocal m (j + 1)))
+        → Small (toLocal m (j + 1))
+    go true e true q (with c cs) ih = subst (λ (i : ℕ). Small (toLocal m i)) (let g : p ≡ j = eqb-true p j e in let z : suc p ≡ j + 1 = omega arith in z) c
+    go true e false q c ih =
+        let g : p ≡ j = eqb-true p j e in
+        let z : j + 1 ≡ suc p = omega arith in
+        absurd (let w : _≡_ {A = Bool} true false = sym h ∙ ap (member s) z ∙ q in let y : _≡_ {A = ℕ} 0 1 = cc in omega arith)
+    go false e true q (with c cs) ih = let n : p ≡ j → ⊥ = eqb-false p j e in ih (omega arith) (omega arith) h cs
+    go false e false q c ih = let n : p ≡ j → ⊥ = eqb-false p j e in ih (omega arith) (omega arith) h c
+
+pub small-local : (m r : Message) (s p : ℕ) → All Small (toLocals m (members s)) → p < 63 → member s (p + 1) ≡ true → r ≡ toLocal m (p + 1) → Small r
+small-local m r s p l h t e =
+    rw e (at-from m s 63 0 p (omega arith) (omega arith) t (subst (λ (ps : List ℕ). All Small (toLocals m ps)) (members-above s) l))
 
 -- the next put, and the rest after it
 pub put-step : (t u : List ℕ) (place p : ℕ) (m r : Message) (s : ℕ) → p < 63 → member s (p + 1) ≡ true → r ≡ toLocal m (p + 1) → u ≡ putMessage t place r

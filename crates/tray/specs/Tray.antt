@@ -3,13 +3,11 @@
 use Prim.Native.Nat.{ℕ, zero, suc, _+_, _*_, _/_, _^_, _<_}
 use mathlib.Core.Path.{_≡_}
 use mathlib.Core.Bool.{true, cond}
-use mathlib.Core.List.{List, [], _∷_, _++_, map}
+use mathlib.Core.List.{List, [], _∷_, _++_}
 use lib.Dec.{eqb}
 use lib.ListN.{length, getD, take, drop}
 use Rattle.octets.specs.Octets.{be, digits}
 use Rattle.octets.specs.Fields.{cut, join}
-use Rattle.systems.specs.Set.{count}
-use Rattle.model.specs.Tray.{members}
 use Rattle.model.specs.declared.Message.{Message}
 
 -- ---- a message: three words
@@ -108,25 +106,7 @@ unfoldable pub readPlaces : List ℕ → ℕ → ℕ → List Message
 readPlaces t place zero = []
 readPlaces t place (suc n) = messageFrom t (messageSize * place) ∷ readPlaces t (suc place) n
 
--- ---- downloads
-
--- the same message to a provider's Local SMS
-abbrev pub toLocal : Message → ℕ → Message
-toLocal m p = record {
-  local = true;
-  provider = p;
-  sort = m .sort;
-  id = m .id;
-  status = m .status;
-  failed = m .failed;
-  lrn = m .lrn;
-}
-
--- one for each of these providers
-abbrev pub toLocals : Message → List ℕ → List Message
-toLocals m ps = map (toLocal m) ps
-
--- what putting downloads leaves and says: rising provider [Y5]
-pub record Sent (t after : List ℕ) (place : ℕ) (m : Message) (set r : ℕ) : Type 0 where
-  pub tray : after ≡ putAll t place (toLocals m (members set))
-  pub said : r ≡ count set 63
+-- what putting messages leaves: they stand in the tray from a place on, and so many there are
+pub record Told (ms : List Message) (at : ℕ) (t after : List ℕ) (r : ℕ) : Type 0 where
+  pub tray : after ≡ putAll t at ms
+  pub said : r ≡ length ms

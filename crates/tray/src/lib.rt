@@ -2,8 +2,11 @@
 ghost use mathlib.Core.Path.{_≡_};
 ghost use mathlib.Core.Bool.{cond};
 ghost use Prim.Native.Nat.{_+_, _*_, _<_, _≤_};
-ghost use Rattle.systems.specs.Set.{count};
-ghost use Rattle.tray.specs.Tray.{Small, headOf, tailOf, messageOf, messageFrom, placesIn, putMessage, toLocal, Sent};
+ghost use lib.ListN.{length};
+ghost use Rattle.model.specs.Basics.{All};
+ghost use Rattle.model.specs.Tray.{members};
+ghost use Rattle.verdict.specs.Verdict.{toLocal, toLocals};
+ghost use Rattle.tray.specs.Tray.{Small, headOf, tailOf, messageOf, messageFrom, placesIn, putMessage, Told};
 use model::Id;
 use model::Lrn;
 use model::Message;
@@ -93,7 +96,7 @@ pub fn put_message(tray: &mut [u8], place: usize, m: Message)
 }
 
 // The same message to a provider's Local SMS.
-fn to_local(m: Message, provider: u8) -> Message
+pub fn to_local(m: Message, provider: u8) -> Message
     ensures { λ r. ⌜ r ≡ toLocal m provider ⌝ }
 {
     let id = m.id;
@@ -111,8 +114,9 @@ fn to_local(m: Message, provider: u8) -> Message
 
 // One message for each provider of the set, rising, from a place on; how many were put. [Y5]
 pub fn put_downloads(tray: &mut [u8], from: usize, m: Message, set: u64) -> usize
-    requires { ⌜ (from + count set 63 ≤ placesIn (now tray)) × Small m ⌝ }
-    ensures { λ r. ⌜ Sent (now (tray .entry)) (now (tray .exit)) from m set r ⌝ }
+    requires { ⌜ from + length (toLocals m (members set)) ≤ placesIn (now tray) ⌝ }
+    requires { ⌜ All Small (toLocals m (members set)) ⌝ }
+    ensures { λ r. ⌜ Told (toLocals m (members set)) from (now (tray .entry)) (now (tray .exit)) r ⌝ }
 {
     let mut at = from;
     let mut provider: u8 = 0;

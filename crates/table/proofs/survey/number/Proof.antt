@@ -40,7 +40,7 @@ returns c =
     let vs = decode (st .args .t .now) in
     let g = sound-good (st .args .t .now) (st .args .n) (st .pre .0) in
     let e = c .before .before .before .versions .ensures in
-    subst (Surveyed vs (st .args .k)) (sym (c .shown .ensures))
+    subst (Surveyed vs _ (st .args .k)) (sym (c .shown .ensures))
     (number-shown vs (st .args .k) _ _ _ _ (e .0) (e .1) (c .before .before .empty .ensures) (c .before .over .ensures) (g .sound) (g .rises))
 
 pub number-spec : {M : Type 1} → statement M
