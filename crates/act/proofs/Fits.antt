@@ -22,7 +22,8 @@ use Rattle.scan.specs.Sound.{itself, rowsIn, SoundTable}
 use Rattle.table.specs.Survey.{Found, Stands, theOne, versionAt}
 use Rattle.table.specs.declared.survey.Seen.{Seen}
 use Rattle.table.specs.declared.survey.Seen.the-variants.{Nobody, One}
-use Rattle.table.proofs.Asked.{others-live, listOf}
+use Rattle.table.specs.Survey.{listOf}
+use Rattle.table.proofs.Asked.{others-live}
 use Rattle.telling.specs.Telling.{Tellable}
 use Rattle.act.specs.Act.{Fit, Settling, othersOf, replacedBy}
 use Rattle.model.specs.declared.Id.{Id}

@@ -6,7 +6,7 @@ use mathlib.Core.Bool.{Bool, true, false, cond, not, _&&_, _||_, or-false}
 use mathlib.Core.Option.{Option, none, some}
 use mathlib.Core.List.{List, [], _∷_}
 use lib.Dec.{eqb, ltb, leb}
-use borrow.Author.Tests.{eqb-true, ne-eqb}
+use borrow.Author.Tests.{eqb-true, not-true}
 use native.Mathlib.Omega.{arith}
 use Rattle.model.specs.Basics.{holds, isNone, among}
 use Rattle.model.specs.Numbers.{codeOf}
@@ -16,16 +16,14 @@ use Rattle.model.specs.Outcomes.{isDone, judge, orderOf, createOrder, answerOrd
 use Rattle.model.specs.Given.{Given, nameIn, found, rest, lastStamp}
 use Rattle.model.specs.Creates.{currentFor}
 use Rattle.model.specs.Refusals.{absent, beforeDue, early, busy, busyWith, unawaited, notCurrent, unfit, exhausted, full, refuses}
-use Rattle.model.proofs.Lists.{clash}
+use Rattle.model.proofs.Lists.{clash, and-l, and-r}
 use Rattle.model.specs.declared.Event.{Event}
 use Rattle.model.specs.declared.Version.{Version}
 use Rattle.model.specs.declared.Outcome.{Outcome}
 use Rattle.model.specs.declared.Outcome.the-variants.{Done, Unsound, Malformed, Absent, Unlisted, Unknown, Standless, Misplaced, Early, Unfit, Busy, Unawaited, NotCurrent, Full, Exhausted}
-use Rattle.model.specs.Table.{rowsOf}
-use Rattle.scan.specs.Sound.{itself}
 use Rattle.table.specs.Survey.{Surveyed}
 use Rattle.table.specs.declared.survey.Facts.{Facts}
-use Rattle.judge.specs.Judged.{createFor, unknownBy, answerFor, otherFor}
+use Rattle.judge.specs.Judged.{firstOf, testOf, createFor, unknownBy, answerFor, otherFor}
 
 -- only done has number 0
 pub zero-done : (o : Outcome) → numberOf o ≡ 0 → o ≡ Done
@@ -81,15 +79,34 @@ no-due : (e : Event) (o : Option Version) → eqb (e .kind) 5 ≡ false → hold
 no-due e none h = refl
 no-due e (some v) h = rw h
 
+-- ---- an event that passes an order has each of its tests false
+
+abbrev refusals : List Outcome → Bool
+refusals [] = true
+refusals (o ∷ os) = not (isDone o) && refusals os
+
+pub passed : (os : List Outcome) (bs : List Bool) → refusals os ≡ true → isDone (firstOf os bs) ≡ true → (x : Outcome) → testOf os bs x ≡ false
+passed [] bs a d x = refl
+passed (o ∷ os) [] a d x = refl
+passed (o ∷ os) (b ∷ bs) a d x = go b (eqb (numberOf o) (numberOf x)) d (passed os bs (and-r (not (isDone o)) (refusals os) a))
+  where
+    off : isDone o ≡ false
+    off = not-true (isDone o) (and-l (not (isDone o)) (refusals os) a)
+
+    go : (b y : Bool) → isDone (cond b o (firstOf os bs)) ≡ true → (isDone (firstOf os bs) ≡ true → (x : Outcome) → testOf os bs x ≡ false) → cond y b (testOf os bs x) ≡ false
+    go true y d ih = clash (sym off ∙ d)
+    go false true d ih = refl
+    go false false d ih = ih d x
+
 -- ---- the three orders
 
-module _ (t : List Version) (g : Given) (f : Facts) (rows : g .rows ≡ rowsOf itself (g .event .tn .0) t) (s : Surveyed t (nameIn (g .event)) f) where
+module _ (t : List Version) (g : Given) (f : Facts) (s : Surveyed t (g .rows) (nameIn (g .event)) f) where
   pub create-judged : isCreate (g .event .kind) ≡ true
       → createFor (g .event) (absent (g .books) (g .event)) (ownerOf (g .books) (codeOf (g .event .tn))) f (g .free) ≡ judge (refuses g) (orderOf (g .event .kind))
   unfolding createFor early busy notCurrent unfit exhausted full currentFor
   create-judged k =
       let c = create-answer (g .event .kind) k in
-      rw (k, k, c .0, no-due (g .event) (found g) (c .1), or-false (ltb (g .event .time) (lastStamp (g .rows))), rows, s .all .newest, s .all .stamp, s .all .sending, s .all .live .is, s .worked .is)
+      rw (k, k, c .0, no-due (g .event) (found g) (c .1), or-false (ltb (g .event .time) (lastStamp (g .rows))), s .all .newest, s .all .stamp, s .all .sending, s .all .live .is, s .worked .is)
 
   pub unknown-judged : isCreate (g .event .kind) ≡ false → found g ≡ none → unknownBy (absent (g .books) (g .event)) ≡ judge (refuses g) (orderOf (g .event .kind))
   unknown-judged c q = go (isAnswer (g .event .kind)) refl
@@ -106,4 +123,4 @@ module _ (t : List Version) (g : Given) (f : Facts) (rows : g .rows ≡ rowsOf i
   pub other-judged : (v : Version) → isCreate (g .event .kind) ≡ false → isAnswer (g .event .kind) ≡ false → found g ≡ some v
       → otherFor (g .event) (absent (g .books) (g .event)) f v ≡ judge (refuses g) (orderOf (g .event .kind))
   unfolding otherFor early busy busyWith unawaited
-  other-judged v c a q = rw (c, a, q, c, a, rows, s .all .newest, s .all .stamp, s .rest .sending)
+  other-judged v c a q = rw (c, a, q, c, a, s .all .newest, s .all .stamp, s .rest .sending)

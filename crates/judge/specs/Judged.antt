@@ -10,13 +10,14 @@ use Rattle.model.specs.Record.{isBroadcast}
 use Rattle.model.specs.Sound.{failure}
 use Rattle.model.specs.Standing.{lacksStanding, wrongStatus}
 use Rattle.model.specs.Creates.{oldIn, currentOr, fits}
+use Rattle.model.specs.Outcomes.{numberOf, createOrder, answerOrder, otherOrder}
 use Rattle.model.specs.Answers.{awaited}
 use Rattle.model.specs.Refusals.{missing, absent, beforeStart, beforeDue, idle}
 use Rattle.model.specs.declared.Event.{Event}
 use Rattle.model.specs.declared.Version.{Version}
 use Rattle.model.specs.declared.Marks.{Marks}
 use Rattle.model.specs.declared.Outcome.{Outcome}
-use Rattle.model.specs.declared.Outcome.the-variants.{Done, Absent, Unlisted, Unknown, Standless, Misplaced, Early, Unfit, Busy, Unawaited, NotCurrent, Full, Exhausted}
+use Rattle.model.specs.declared.Outcome.the-variants.{Done}
 use Rattle.books.specs.Packed.{decodeBooks}
 use Rattle.table.specs.declared.survey.Facts.{Facts}
 use Rattle.table.specs.Survey.{theOne}
@@ -28,45 +29,43 @@ missingIn m p = missing (decodeBooks m []) p
 abbrev pub absentIn : Marks → Event → Bool
 absentIn m e = absent (decodeBooks m []) e
 
--- creates: 3, 4, 10, 8, 12, 9, 14, 13 [O6]
-abbrev pub createBy : Bool → Bool → Bool → Bool → Bool → Bool → Bool → Bool → Outcome
-createBy absent unlisted busy early notCurrent unfit exhausted full =
-    cond absent Absent
-    (cond unlisted Unlisted
-    (cond busy Busy
-    (cond early Early
-    (cond notCurrent NotCurrent
-    (cond unfit Unfit
-    (cond exhausted Exhausted
-    (cond full Full Done)))))))
+-- the first outcome of an order whose test holds, or done
+abbrev pub firstOf : List Outcome → List Bool → Outcome
+firstOf [] bs = Done
+firstOf (o ∷ os) [] = Done
+firstOf (o ∷ os) (b ∷ bs) = cond b o (firstOf os bs)
+
+-- the test of an outcome in it
+abbrev pub testOf : List Outcome → List Bool → Outcome → Bool
+testOf [] bs x = false
+testOf (o ∷ os) [] x = false
+testOf (o ∷ os) (b ∷ bs) x = cond (eqb (numberOf o) (numberOf x)) b (testOf os bs x)
+
+-- creates [O6]
+abbrev pub createTests : Event → Bool → ℕ → Facts → Bool → List Bool
+createTests e absent owner f free =
+    absent
+    ∷ eqb owner 0
+    ∷ f .all .sends
+    ∷ ltb (e .time) (f .all .stamp)
+    ∷ not (eqb (oldIn e) (currentOr owner (theOne (f .all .live))))
+    ∷ holds (theOne (f .worked)) (λ (v : Version). not (fits e v))
+    ∷ (isNone (theOne (f .worked)) && leb 65535 (f .all .newest))
+    ∷ (isNone (theOne (f .worked)) && not free)
+    ∷ []
 
 unfoldable pub createFor : Event → Bool → ℕ → Facts → Bool → Outcome
-createFor e absent owner f free =
-    createBy absent (eqb owner 0) (f .all .sends) (ltb (e .time) (f .all .stamp)) (not (eqb (oldIn e) (currentOr owner (theOne (f .all .live)))))
-    (holds (theOne (f .worked)) (λ (v : Version). not (fits e v))) (isNone (theOne (f .worked)) && leb 65535 (f .all .newest))
-    (isNone (theOne (f .worked)) && not free)
+createFor e absent owner f free = firstOf createOrder (createTests e absent owner f free)
 
--- a version that is not there: 3, 5
+-- a version that is not there
 abbrev pub unknownBy : Bool → Outcome
-unknownBy absent = cond absent Absent Unknown
+unknownBy absent = firstOf otherOrder (absent ∷ true ∷ [])
 
--- kinds 11 and 12: 3, 11, 8 [O7]
-abbrev pub answerBy : Bool → Bool → Bool → Outcome
-answerBy absent unawaited early = cond absent Absent (cond unawaited Unawaited (cond early Early Done))
-
+-- kinds 11 and 12 [O7]
 abbrev pub answerFor : Event → Bool → Version → Outcome
-answerFor e absent v = answerBy absent (not (awaited e v)) (beforeStart e v)
+answerFor e absent v = firstOf answerOrder (absent ∷ false ∷ not (awaited e v) ∷ beforeStart e v ∷ [])
 
--- all others: 3, 6, 7, 10, 8, 11 [O8]
-abbrev pub otherBy : Bool → Bool → Bool → Bool → Bool → Bool → Outcome
-otherBy absent standless misplaced busy early idle =
-    cond absent Absent
-    (cond standless Standless
-    (cond misplaced Misplaced
-    (cond busy Busy
-    (cond early Early
-    (cond idle Unawaited Done)))))
-
+-- all others [O8]
 abbrev pub busyFor : Event → Facts → Version → Bool
 busyFor e f v =
     cond (isBroadcast (e .kind)) (f .rest .sends || (eqb (e .kind) 14 && eqb (v .status) failure && ltb (v .id .number) (f .all .newest)))
@@ -74,4 +73,12 @@ busyFor e f v =
 
 unfoldable pub otherFor : Event → Bool → Facts → Version → Outcome
 otherFor e absent f v =
-    otherBy absent (lacksStanding e v) (wrongStatus e v) (busyFor e f v) (ltb (e .time) (f .all .stamp) || beforeDue e v) (idle e v)
+    firstOf otherOrder
+    (absent
+    ∷ false
+    ∷ lacksStanding e v
+    ∷ wrongStatus e v
+    ∷ busyFor e f v
+    ∷ (ltb (e .time) (f .all .stamp) || beforeDue e v)
+    ∷ idle e v
+    ∷ [])

@@ -6,18 +6,18 @@ use model::Version;
 use table::survey::Facts;
 use table::survey::Seen;
 ghost use mathlib.Core.Path.{_≡_};
-ghost use mathlib.Core.Bool.{true, cond, not, _&&_, _||_};
+ghost use mathlib.Core.Bool.{true, false, cond, not, _&&_, _||_};
 ghost use mathlib.Core.List.{[], _∷_};
 ghost use Prim.Native.Nat.{_<_};
 ghost use lib.Dec.{eqb, ltb, leb};
 ghost use Rattle.model.specs.Basics.{among, holds, isNone};
-ghost use Rattle.model.specs.Outcomes.{isDone};
+ghost use Rattle.model.specs.Outcomes.{createOrder, answerOrder, otherOrder};
 ghost use Rattle.model.specs.Standing.{isGridKind, unready, lacksStanding, wrongStatus};
 ghost use Rattle.model.specs.Creates.{currentOr, fits};
 ghost use Rattle.model.specs.Answers.{awaited};
 ghost use Rattle.model.specs.Refusals.{beforeStart, beforeDue, idle};
 ghost use Rattle.table.specs.Survey.{theOne};
-ghost use Rattle.judge.specs.Judged.{missingIn, absentIn, createBy, createFor, unknownBy, answerBy, answerFor, otherBy, busyFor, otherFor};
+ghost use Rattle.judge.specs.Judged.{missingIn, absentIn, firstOf, createFor, unknownBy, answerFor, busyFor, otherFor};
 
 // ---- sender and other
 
@@ -46,7 +46,7 @@ fn create_by(
     exhausted: bool,
     full: bool,
 ) -> Outcome
-    ensures { λ r. ⌜ r ≡ createBy absent unlisted busy early «not_current» unfit exhausted full ⌝ }
+    ensures { λ r. ⌜ r ≡ firstOf createOrder (absent ∷ unlisted ∷ busy ∷ early ∷ «not_current» ∷ unfit ∷ exhausted ∷ full ∷ []) ⌝ }
 {
     if absent {
         return Outcome::Absent;
@@ -138,7 +138,7 @@ pub fn unknown(absent: bool) -> Outcome
 }
 
 fn answer_by(absent: bool, unawaited: bool, early: bool) -> Outcome
-    ensures { λ r. ⌜ r ≡ answerBy absent unawaited early ⌝ }
+    ensures { λ r. ⌜ r ≡ firstOf answerOrder (absent ∷ false ∷ unawaited ∷ early ∷ []) ⌝ }
 {
     if absent {
         return Outcome::Absent;
@@ -166,7 +166,7 @@ fn other_by(
     early: bool,
     idle: bool,
 ) -> Outcome
-    ensures { λ r. ⌜ r ≡ otherBy absent standless misplaced busy early idle ⌝ }
+    ensures { λ r. ⌜ r ≡ firstOf otherOrder (absent ∷ false ∷ standless ∷ misplaced ∷ busy ∷ early ∷ idle ∷ []) ⌝ }
 {
     if absent {
         return Outcome::Absent;

@@ -15,7 +15,7 @@ use Rattle.model.specs.Table.{order, sel, rowsOf, find, notNamed, others}
 use Rattle.model.specs.Sound.{live, count, soundTable}
 use Rattle.model.proofs.Order.{order-eq}
 use Rattle.scan.specs.Sound.{itself}
-use Rattle.table.specs.Survey.{named}
+use Rattle.table.specs.Survey.{named, listOf}
 use Rattle.scan.proofs.Counted.{tally-counts}
 use Rattle.scan.proofs.Meant.{table-good}
 use Rattle.table.proofs.Numbered.{find-first, rises-type, rising-rows, named-is}
@@ -72,10 +72,6 @@ fresh-absent k (v ∷ vs) h = go (order k (v .id)) refl (eqb (v .id .tn .0) (k .
     go Ordering·gt e false q l ih = ih l
 
 -- ---- at most one live version
-
-abbrev pub listOf : Option Version → List Version
-listOf none = []
-listOf (some v) = v ∷ []
 
 pub keep-one : (p : Version → Bool) (l : List Version) → count p l ≤ 1 → keep p l ≡ listOf (first p l)
 keep-one p [] h = refl

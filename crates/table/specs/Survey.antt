@@ -95,6 +95,11 @@ abbrev pub theOne : Seen → Option Version
 theOne Nobody = none
 theOne (One i v) = some v
 
+-- and as a list
+abbrev pub listOf : Option Version → List Version
+listOf none = []
+listOf (some v) = v ∷ []
+
 -- it stands where it was seen
 abbrev pub Stands : List Version → Seen → Type 0
 Stands t Nobody = Unit {0}

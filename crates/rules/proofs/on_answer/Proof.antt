@@ -1,0 +1,27 @@
+use Rattle.rules.proofs.Deciding.{refused-by, done-by, answer-judges, answer-says, answer-waits, row-purpose}
+use borrow.Author.Needs.{needs}
+use Rattle.rules.proofs.on_answer.Statement.{statement}
+use Rattle.rules.proofs.on_answer.Tie as tie
+
+answer-requires : tie.Need-answer-requires
+answer-requires c κs = search needs
+
+number-requires : tie.Need-number-requires
+number-requires c κs = search needs
+
+refused-requires : tie.Need-refused-requires
+refused-requires c κs = search needs
+
+returns : tie.Need-returns
+returns c = let s = c .before .before .before .before in refused-by _ _ _ _ _ (answer-judges _ _ _ _ _ (s .pre .1 .0) _ (s .pre .1 .1) (c .before .before .before .answer .ensures)) _ (c .before .before .number .ensures) (c .before .if1 .taken) (c .refused .ensures)
+
+answered-requires : tie.Need-answered-requires
+answered-requires c κs = let p = c .before .before .before .before .pre in ((p .0 .1, row-purpose _ (p .0 .2)), answer-waits _ (c .before .before .before .before .args .k .absent) _ (c .before .before .before .answer .result) (p .0 .0) (p .1 .1) (p .0 .2) (c .before .before .before .answer .ensures) (done-by (c .before .before .before .answer .result) _ (c .before .before .number .ensures) (c .before .if1 .left)))
+
+returns-2 : tie.Need-returns-2
+returns-2 c = let s = c .before .before .before .before .before in answer-says _ _ _ _ _ (s .pre .1 .0) _ (s .pre .1 .1) (c .before .before .before .before .answer .ensures) (done-by (c .before .before .before .before .answer .result) _ (c .before .before .before .number .ensures) (c .before .before .if1 .left)) _ (c .answered .ensures)
+
+pub on-answer-spec : {M : Type 1} → statement M
+on-answer-spec =
+    tie.close
+    (tie.spec answer-requires number-requires refused-requires returns answered-requires returns-2)
