@@ -1,6 +1,5 @@
+pub mod Posting
 pub mod Deciding
-pub mod Answering
-pub mod Others
 pub mod Stepping
 pub mod Bytewise
 pub mod Keeping

@@ -2,14 +2,19 @@
 -- Assumes nothing.
 use mathlib.Core.Path.{_≡_}
 use Prim.Native.Nat.{ℕ, _≤_}
-use mathlib.Core.Bool.{true, cond}
+use mathlib.Core.Bool.{Bool, true, cond}
 use mathlib.Core.List.{List}
 use lib.Dec.{ltb}
 use lib.ListN.{length}
 use Rattle.model.specs.Table.{changes, rowsOf}
-use Rattle.model.specs.Record.{wellFormed}
+use Rattle.model.specs.Numbers.{codeOf}
+use Rattle.model.specs.Books.{ownerOf}
+use Rattle.model.specs.Record.{isCreate, isBroadcast, wellFormed}
+use Rattle.model.specs.Selection.{selectedFor}
 use Rattle.model.specs.Outcomes.{isDone, numberOf}
 use Rattle.model.specs.Given.{Given, Result}
+use Rattle.judge.specs.Judged.{absentIn}
+use Rattle.rules.specs.declared.Known.{Known}
 use Rattle.books.specs.Packed.{decodeBooks, soundBytes}
 use Rattle.rows.specs.Table.{decode, encode}
 use Rattle.scan.specs.Sound.{rowsIn, itself}
@@ -27,6 +32,14 @@ givenTo m b most t e = record {
   event = e;
   rows = rowsOf itself (e .tn .0) (decode t);
 }
+
+-- what the rules are told beside the versions
+pub record KnownTo (m : Marks) (b : List ℕ) (R : ℕ) (row : Bool) (e : Event) (k : Known) : Type 0 where
+  pub most : k .most ≡ R
+  pub absent : k .absent ≡ absentIn m e
+  pub owner : isCreate (e .kind) ≡ true → k .owner ≡ ownerOf (decodeBooks m b) (codeOf (e .tn))
+  pub free : k .free ≡ row
+  pub selected : isBroadcast (e .kind) ≡ true → k .selected ≡ selectedFor (decodeBooks m b) (e .tn)
 
 -- the books are sound, the event well formed, and the tray has its places
 pub record Ready (m : Marks) (b : List ℕ) (e : Event) (k : ℕ) : Type 0 where

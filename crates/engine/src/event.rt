@@ -1,121 +1,58 @@
-// One event on a sound table: judged, and where nothing refuses it, done.
+// One event on a sound table: its facts are gathered, the rules decide, the rows are changed and the mail delivered.
 use model::Event;
 use model::Id;
 use model::Marks;
 use outcomes::Answer;
-use table::survey::Facts;
-use table::survey::Seen;
+use rules::Known;
 use words::ROW;
 ghost use mathlib.Core.Path.{_≡_};
-ghost use mathlib.Core.Bool.{true, false};
-ghost use Prim.Native.Nat.{ℕ, _≤_};
-ghost use mathlib.Core.List.{List};
-ghost use Rattle.model.specs.Record.{isCreate, isAnswer, wellFormed};
-ghost use Rattle.model.specs.Given.{nameIn};
+ghost use mathlib.Core.Bool.{true};
+ghost use Prim.Native.Nat.{_≤_};
+ghost use Rattle.model.specs.Numbers.{codeOf};
+ghost use Rattle.model.specs.Books.{ownerOf};
+ghost use Rattle.model.specs.Record.{isCreate, isBroadcast};
+ghost use Rattle.model.specs.Selection.{selectedFor};
 ghost use Rattle.model.specs.Step.{rule};
-ghost use Rattle.rows.specs.Table.{decode};
+ghost use Rattle.books.specs.Packed.{decodeBooks, soundBytes};
 ghost use Rattle.scan.specs.Sound.{SoundTable};
-ghost use Rattle.table.specs.Survey.{Surveyed};
 ghost use Rattle.tray.specs.Tray.{placesIn};
-ghost use Rattle.engine.specs.Event.{Ready, Did, givenTo};
+ghost use Rattle.engine.specs.Event.{Ready, Did, givenTo, KnownTo};
 
-// Kinds 1 and 2.
-fn on_create(
-    marks: Marks,
-    books: &[u8],
-    table: &mut [u8],
-    n: usize,
-    e: Event,
-    f: Facts,
-    tray: &mut [u8],
-) -> Answer
-    requires { ⌜ SoundTable (now table) n ⌝ }
-    requires { ⌜ Ready marks (now books) e (placesIn (now tray)) × Surveyed (decode (now table)) (nameIn e) f × (isCreate (e .kind) ≡ true) ⌝ }
-    ensures { λ r. ⌜ ((most : ℕ) → Did (rule (givenTo marks (now (books .entry)) most (now (table .entry)) e)) (now (table .entry)) (now (tray .entry)) (now (table .exit)) (now (tray .exit)) r) ⌝ }
+// The owner of a create's code; no other kind asks.
+fn owner(marks: Marks, books: &[u8], e: Event) -> u8
+    requires { ⌜ soundBytes marks (now books) ≡ true ⌝ }
+    ensures { λ r. ⌜ (isCreate (e .kind) ≡ true → r ≡ ownerOf (decodeBooks marks (now (books .entry))) (codeOf (e .tn))) ⌝ }
 {
-    let tn = e.tn;
-    let code = books::code_of(tn);
-    let gone = judge::absent(marks, e);
-    let owner = books::owner(books, code);
-    let free = n < table.len() / ROW;
-    let o = judge::create(e, gone, owner, f, free);
-    let outcome = outcomes::number(o);
-    if outcome != 0 {
-        return Answer { outcome, count: 0 };
+    if rules::is_create(e.kind) {
+        let tn = e.tn;
+        return books::owner(books, books::code_of(tn));
     }
-    let count = act::created(table, n, e, f, tray);
-    outcomes::done(count)
+    0
 }
 
-// Kinds 11 and 12.
-fn on_answer(
-    marks: Marks,
-    most: u8,
-    table: &mut [u8],
-    n: usize,
-    e: Event,
-    f: Facts,
-    tray: &mut [u8],
-) -> Answer
-    requires { ⌜ SoundTable (now table) n ⌝ }
-    requires { ⌜ (wellFormed e ≡ true) × (64 ≤ placesIn (now tray)) × (most ≤ 7) × Surveyed (decode (now table)) (nameIn e) f × (isAnswer (e .kind) ≡ true) ⌝ }
-    ensures { λ r. ⌜ ((b : List ℕ) → Did (rule (givenTo marks b most (now (table .entry)) e)) (now (table .entry)) (now (tray .entry)) (now (table .exit)) (now (tray .exit)) r) ⌝ }
+// Whom a broadcast asks; no other kind does.
+fn selected(marks: Marks, books: &[u8], e: Event) -> u64
+    requires { ⌜ soundBytes marks (now books) ≡ true ⌝ }
+    ensures { λ r. ⌜ (isBroadcast (e .kind) ≡ true → r ≡ selectedFor (decodeBooks marks (now (books .entry))) (e .tn)) ⌝ }
 {
-    let gone = judge::absent(marks, e);
-    let asked = f.asked;
-    let rest = f.rest;
-    let lives = rest.live;
-    match asked {
-        Seen::One(i, v) => {
-            let o = judge::answer(e, gone, v);
-            let outcome = outcomes::number(o);
-            if outcome != 0 {
-                return Answer { outcome, count: 0 };
-            }
-            let count = act::put_answered(most, table, n, i, e, v, lives, tray);
-            outcomes::done(count)
-        }
-        Seen::Nobody => {
-            let o = judge::unknown(gone);
-            let outcome = outcomes::number(o);
-            Answer { outcome, count: 0 }
-        }
+    if opening::is_broadcast(e.kind) {
+        let tn = e.tn;
+        return selection::selected(marks, books, books::code_of(tn));
     }
+    0
 }
 
-// All other kinds.
-fn on_other(
-    marks: Marks,
-    books: &[u8],
-    table: &mut [u8],
-    n: usize,
-    e: Event,
-    f: Facts,
-    tray: &mut [u8],
-) -> Answer
-    requires { ⌜ SoundTable (now table) n ⌝ }
-    requires { ⌜ Ready marks (now books) e (placesIn (now tray)) × Surveyed (decode (now table)) (nameIn e) f × (isCreate (e .kind) ≡ false) × (isAnswer (e .kind) ≡ false) ⌝ }
-    ensures { λ r. ⌜ ((most : ℕ) → Did (rule (givenTo marks (now (books .entry)) most (now (table .entry)) e)) (now (table .entry)) (now (tray .entry)) (now (table .exit)) (now (tray .exit)) r) ⌝ }
+// What books, R and table say beside the versions.
+fn known(marks: Marks, books: &[u8], most: u8, free: bool, e: Event) -> Known
+    requires { ⌜ soundBytes marks (now books) ≡ true ⌝ }
+    ensures { λ r. ⌜ KnownTo marks (now (books .entry)) most free e r ⌝ }
 {
-    let gone = judge::absent(marks, e);
-    let asked = f.asked;
-    let rest = f.rest;
-    let lives = rest.live;
-    match asked {
-        Seen::One(i, v) => {
-            let o = judge::other(e, gone, f, v);
-            let outcome = outcomes::number(o);
-            if outcome != 0 {
-                return Answer { outcome, count: 0 };
-            }
-            let count = act::manage(marks, books, table, n, i, e, v, lives, tray);
-            outcomes::done(count)
-        }
-        Seen::Nobody => {
-            let o = judge::unknown(gone);
-            let outcome = outcomes::number(o);
-            Answer { outcome, count: 0 }
-        }
+    Known {
+        most,
+        absent: judge::absent(marks, e),
+        owner: owner(marks, books, e),
+        free,
+        selected: selected(marks, books, e),
     }
 }
 
@@ -134,15 +71,17 @@ pub fn on_event(
     ensures { λ r. ⌜ Did (rule (givenTo marks (now (books .entry)) most (now (table .entry)) e)) (now (table .entry)) (now (tray .entry)) (now (table .exit)) (now (tray .exit)) r ⌝ }
 {
     let tn = e.tn;
-    let k = Id {
+    let name = Id {
         tn,
         number: e.version,
     };
-    let f = table::survey::number(table, n, k);
-    let kind = e.kind;
-    match kind {
-        1..=2 => on_create(marks, books, table, n, e, f, tray),
-        11..=12 => on_answer(marks, most, table, n, e, f, tray),
-        _ => on_other(marks, books, table, n, e, f, tray),
-    }
+    let f = table::survey::number(table, n, name);
+    let k = known(marks, books, most, n < table.len() / ROW, e);
+    let v = rules::decide(e, k, f);
+    let out = v.out;
+    let rows = v.rows;
+    let mail = v.mail;
+    table::change::apply(table, n, rows);
+    let count = delivery::deliver(tray, mail);
+    outcomes::answered(out, count)
 }

@@ -3,11 +3,13 @@
 use mathlib.Core.List.{List}
 use Prim.Native.Nat.{ℕ, _+_, _*_}
 use lib.ListN.{set}
+use Rattle.model.specs.Outcomes.{numberOf}
+use Rattle.model.specs.declared.Outcome.{Outcome}
 use Rattle.outcomes.specs.declared.Answer.{Answer}
 
--- done: outcome 0, and so many messages
-abbrev pub doneWith : ℕ → Answer
-doneWith n = record { outcome = 0; count = n }
+-- the outcome's number, and so many messages
+abbrev pub answerOf : Outcome → ℕ → Answer
+answerOf o n = record { outcome = numberOf o; count = n }
 
 -- the outcome and the count of event i, in two bytes
 abbrev pub noted : List ℕ → ℕ → Answer → List ℕ

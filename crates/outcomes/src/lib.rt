@@ -4,7 +4,7 @@ ghost use mathlib.Core.Path.{_≡_};
 ghost use Rattle.model.specs.Outcomes.{numberOf};
 ghost use Prim.Native.Nat.{_+_, _*_, _<_, _≤_};
 ghost use lib.ListN.{length};
-ghost use Rattle.outcomes.specs.Answered.{doneWith, noted};
+ghost use Rattle.outcomes.specs.Answered.{answerOf, noted};
 
 // The paper's number of the outcome, and how many messages stand in the tray.
 #[repr(C)]
@@ -36,12 +36,12 @@ pub fn number(o: Outcome) -> u64
     }
 }
 
-// An event that is done, and so many messages.
-pub fn done(count: usize) -> Answer
-    ensures { λ r. ⌜ r ≡ doneWith count ⌝ }
+// What an event with this outcome and so many messages is answered.
+pub fn answered(out: Outcome, count: usize) -> Answer
+    ensures { λ r. ⌜ r ≡ answerOf out count ⌝ }
 {
     Answer {
-        outcome: 0,
+        outcome: number(out),
         count: count as u64,
     }
 }

@@ -1,6 +1,7 @@
 // The rules: what an event is answered, decided from the facts of its number. No table and no tray is seen here.
 pub mod accepted;
 pub mod told;
+
 use model::Event;
 use model::Outcome;
 use model::Version;
@@ -81,7 +82,7 @@ fn on_other(e: Event, k: Known, f: Facts, i: usize, v: Version) -> Verdict
     accepted::managed(k.selected, i, e, v, lives)
 }
 
-fn is_create(kind: u8) -> bool
+pub fn is_create(kind: u8) -> bool
     ensures { λ r. ⌜ r ≡ isCreate kind ⌝ }
 {
     (kind == 1) | (kind == 2)

@@ -1,3 +1,0 @@
-pub mod Fits
-pub mod Manages
-pub mod Creating
