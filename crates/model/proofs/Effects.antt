@@ -141,7 +141,7 @@ modest-accepted g =
     (modest-cond (isAnswer (g .event .kind)) (modest-found (found g) _ (λ v. modest-answers (g .most) (g .event) v (rest g)))
     (modest-found (found g) _ (λ v. modest-manages (g .books) (g .event) v (rest g))))
 
-modest-rule : (g : Given) → Modest (rule g)
+pub modest-rule : (g : Given) → Modest (rule g)
 unfolding rule
 modest-rule g =
     let o : Outcome = judge (refuses g) (orderOf (g .event .kind)) in
