@@ -14,7 +14,7 @@ use Rattle.systems.specs.Set.{member}
 use Rattle.model.specs.Basics.{All, first}
 use Rattle.model.specs.Table.{put, rowsOf, find, others}
 use Rattle.model.specs.Record.{isCreate, isAnswer, wellFormed}
-use Rattle.model.specs.Outcomes.{isDone, numberOf, judge, orderOf}
+use Rattle.model.specs.Outcomes.{isDone, numberOf, judge, orderOf, answerOrder}
 use Rattle.model.specs.Given.{Given, Result, nameIn, found}
 use Rattle.model.specs.Sound.{live, apart, setsApart, retriesInRange}
 use Rattle.model.specs.Closing.{settled, settles}
@@ -29,7 +29,7 @@ use Rattle.model.proofs.SoundSets.{Apart, apart-says, apart-turned}
 use Rattle.model.proofs.SoundLines.{all-find}
 use Rattle.model.proofs.SoundRows.{Row, cast-ranges}
 use Rattle.model.proofs.SoundLaws.{Brings}
-use Rattle.model.proofs.SoundStep.{answer-passed}
+use Rattle.model.proofs.Outcomes.{refusal-passed}
 use Rattle.answers.specs.Waits.{Waits}
 use Rattle.rows.specs.Table.{decode}
 use Rattle.scan.specs.Sound.{rowsIn, itself, SoundTable}
@@ -51,7 +51,7 @@ use Rattle.model.specs.declared.Marks.{Marks}
 use Rattle.model.specs.declared.Version.{Version}
 use Rattle.model.specs.declared.Broadcast.{Broadcast}
 use Rattle.model.specs.declared.Outcome.{Outcome}
-use Rattle.model.specs.declared.Outcome.the-variants.{Done}
+use Rattle.model.specs.declared.Outcome.the-variants.{Done, Unawaited}
 
 -- 11 and 12 are no creates
 pub answer-create : (k : ℕ) → isAnswer k ≡ true → isCreate k ≡ false
@@ -145,7 +145,7 @@ module _ (m : Marks) (b : List ℕ) (most : ℕ) (t : List ℕ) (n : ℕ) (e : E
       waiting : awaited e v ≡ true
       unfolding unawaited
       waiting =
-          not-false (awaited e v) (rw (a, asked-found (One i v) q) at (answer-passed (refuses (givenTo m b most t e)) (rw (answer-create (e .kind) a, a) at d)))
+          not-false (awaited e v) (rw (a, asked-found (One i v) q) at (refusal-passed (refuses (givenTo m b most t e)) answerOrder Unawaited refl refl (rw (answer-create (e .kind) a, a) at d)))
 
       pub answerable : Answerable most e v
       answerable =

@@ -14,7 +14,7 @@ use Rattle.model.specs.Numbers.{codeOf}
 use Rattle.model.specs.Books.{Books, ownerOf, soundRetries}
 use Rattle.model.specs.Table.{changes, rowsOf}
 use Rattle.model.specs.Record.{isCreate, isAnswer, wellFormed}
-use Rattle.model.specs.Outcomes.{isDone, numberOf, judge, orderOf}
+use Rattle.model.specs.Outcomes.{isDone, numberOf, judge, orderOf, createOrder}
 use Rattle.model.specs.Given.{Given, Result, refuse, accept, nameIn, newest, workedOne}
 use Rattle.model.specs.Creates.{creates}
 use Rattle.model.specs.Refusals.{refuses, exhausted, full}
@@ -22,7 +22,8 @@ use Rattle.model.specs.Step.{rule, accepted, Setting}
 use Rattle.model.proofs.SoundRows.{Row}
 use Rattle.model.proofs.SoundLaws.{Brings, Keeps, Ground}
 use Rattle.model.proofs.SoundTables.{table-says}
-use Rattle.model.proofs.SoundStep.{keeps-rule, create-passed, CreatePassed}
+use Rattle.model.proofs.Outcomes.{zero-done, other-refused, StandsIn, refusal-passed}
+use Rattle.model.proofs.SoundStep.{keeps-rule}
 use Rattle.model.proofs.Lists.{all-keep}
 use Rattle.model.proofs.TableLaws.{rising-part}
 use Rattle.model.proofs.Apart.{rows-rows}
@@ -37,12 +38,12 @@ use Rattle.engine.specs.Event.{Ready, Did, givenTo}
 use Rattle.outcomes.specs.Answered.{doneWith}
 use Rattle.judge.specs.Judged.{createFor, absentIn}
 use Rattle.outcomes.specs.declared.Answer.{Answer}
-use Rattle.judge.proofs.Judging.{zero-done, other-refused, create-judged}
+use Rattle.judge.proofs.Judging.{create-judged}
 use Rattle.model.specs.declared.Event.{Event}
 use Rattle.model.specs.declared.Marks.{Marks}
 use Rattle.model.specs.declared.Version.{Version}
 use Rattle.model.specs.declared.Outcome.{Outcome}
-use Rattle.model.specs.declared.Outcome.the-variants.{Done}
+use Rattle.model.specs.declared.Outcome.the-variants.{Done, Full, Exhausted}
 
 -- ---- the answer of a rule
 
@@ -102,12 +103,12 @@ module _ (m : Marks) (b : List ℕ) (t : List ℕ) (n : ℕ) (e : Event) (f : Fa
     survey = sv;
     count = st .count;
     rows = rw (is, k) at (rule-rows m b 0 t n e (omega arith) st formed);
-    free = λ h. rw (st .count) at (ltb-true (length (decode t)) (rowsIn t) (not-false (ltb (length (decode t)) (rowsIn t)) (rw (none-of h) at (passed .free))));
-    newest = λ h. subst (λ (x : ℕ). x < 65535) (sym (sv .all .newest)) (leb-false 65535 (newest (rowsOf itself (e .tn .0) (decode t))) (rw (none-of h) at (passed .room)));
+    free = λ h. rw (st .count) at (ltb-true (length (decode t)) (rowsIn t) (not-false (ltb (length (decode t)) (rowsIn t)) (rw (none-of h) at (passed Full refl))));
+    newest = λ h. subst (λ (x : ℕ). x < 65535) (sym (sv .all .newest)) (leb-false 65535 (newest (rowsOf itself (e .tn .0) (decode t))) (rw (none-of h) at (passed Exhausted refl)));
   }
     where
-      passed : CreatePassed (refuses (givenTo m b 0 t e))
-      passed = create-passed (refuses (givenTo m b 0 t e)) (rw k at d)
+      passed : (o : Outcome) → StandsIn o createOrder → refuses (givenTo m b 0 t e) o ≡ false
+      passed o i = refusal-passed (refuses (givenTo m b 0 t e)) createOrder o refl i (rw k at d)
 
       none-of : isNone (theOne (f .worked)) ≡ true → isNone (workedOne (rowsOf itself (e .tn .0) (decode t))) ≡ true
       none-of h = ap isNone (sym (sv .worked .is)) ∙ h

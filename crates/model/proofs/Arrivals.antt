@@ -13,14 +13,14 @@ use Rattle.model.specs.Retries.{used}
 use Rattle.model.specs.Closing.{open?, closed, settled}
 use Rattle.model.specs.Answers.{answering, awaited, again, succeeds, moves, moved, heard, askedAgain}
 use Rattle.model.specs.Refusals.{beforeStart}
-use Rattle.model.specs.Outcomes.{judge, answerOrder}
+use Rattle.model.specs.Outcomes.{numberOf, judge, answerOrder}
 use Rattle.model.proofs.Lists.{clash, and-r}
 use Rattle.model.proofs.Digits.{used-other, used-comm}
 use Rattle.model.specs.declared.Broadcast.{Broadcast}
 use Rattle.model.specs.declared.Version.{Version}
 use Rattle.model.specs.declared.Event.{Event}
 use Rattle.model.specs.declared.Outcome.{Outcome}
-use Rattle.model.specs.declared.Outcome.the-variants.{Done, Unsound, Malformed, Absent, Unlisted, Unknown, Standless, Misplaced, Early, Unfit, Busy, Unawaited, NotCurrent, Full, Exhausted}
+use Rattle.model.specs.declared.Outcome.the-variants.{Early, Unawaited}
 
 pub member-none : (p : ℕ) → member 0 p ≡ false
 unfolding member
@@ -28,21 +28,7 @@ member-none p = ap (λ (x : ℕ). eqb x 1) (let z : 0 / 2 ^ p ≡ 0 = zero-div (
 
 -- what an answer for a version gets, in the order of its kind
 abbrev pub holdsFor : Event → Version → Outcome → Bool
-holdsFor e v Done = false
-holdsFor e v Unsound = false
-holdsFor e v Malformed = false
-holdsFor e v Absent = false
-holdsFor e v Unlisted = false
-holdsFor e v Unknown = false
-holdsFor e v Standless = false
-holdsFor e v Misplaced = false
-holdsFor e v Early = beforeStart e v
-holdsFor e v Unfit = false
-holdsFor e v Busy = false
-holdsFor e v Unawaited = not (awaited e v)
-holdsFor e v NotCurrent = false
-holdsFor e v Full = false
-holdsFor e v Exhausted = false
+holdsFor e v o = cond (eqb (numberOf o) (numberOf Unawaited)) (not (awaited e v)) (eqb (numberOf o) (numberOf Early) && beforeStart e v)
 
 abbrev pub unheard : Event → Version → Outcome
 unheard e v = judge (holdsFor e v) answerOrder

@@ -1,5 +1,6 @@
 pub mod Lists
 pub mod Order
+pub mod Outcomes
 pub mod TableLaws
 pub mod Exchanges
 pub mod Apart

@@ -1,6 +1,6 @@
 -- Every step keeps a sound table sound.
 -- Assumes nothing.
-use mathlib.Core.Path.{_≡_, refl, sym, _∙_}
+use mathlib.Core.Path.{_≡_, refl, sym}
 use Prim.Native.Nat.{ℕ, _≤_, _<_}
 use mathlib.Core.Bool.{Bool, true, false, cond}
 use mathlib.Core.List.{List, [], _∷_}
@@ -18,6 +18,7 @@ use Rattle.model.specs.Answers.{awaited}
 use Rattle.model.specs.Refusals.{busy, unawaited, unfit, exhausted, refuses, idle}
 use Rattle.model.specs.Step.{accepted, rule, Setting, line}
 use Rattle.model.proofs.Lists.{clash, or-off}
+use Rattle.model.proofs.Outcomes.{StandsIn, refusal-passed}
 use Rattle.model.proofs.Locality.{ruleIn}
 use Rattle.model.proofs.SoundOpened.{Allowed}
 use Rattle.model.proofs.SoundLaws.{Keeps, Ground, keeps-refuse, keeps-if, keeps-found}
@@ -25,52 +26,7 @@ use Rattle.model.proofs.SoundKinds.{keeps-manages, keeps-creates, keeps
 use Rattle.model.specs.declared.Event.{Event}
 use Rattle.model.specs.declared.Version.{Version}
 use Rattle.model.specs.declared.Outcome.{Outcome}
-use Rattle.model.specs.declared.Outcome.the-variants.{Malformed, Absent, Unlisted, Unknown, Standless, Misplaced, Early, Unfit, Busy, Unawaited, NotCurrent, Full, Exhausted}
-
--- ---- an accepted event has passed each predicate of its order
-
-pub down : (p : Outcome → Bool) (o : Outcome) (os : List Outcome) → isDone o ≡ false → isDone (judge p (o ∷ os)) ≡ true → (p o ≡ false) × (isDone (judge p os) ≡ true)
-down p o os n h = go (p o) refl h
-  where
-    go : (b : Bool) → p o ≡ b → isDone (cond b o (judge p os)) ≡ true → (p o ≡ false) × (isDone (judge p os) ≡ true)
-    go true e q = clash (sym n ∙ q)
-    go false e q = (e, q)
-
-module _ (p : Outcome → Bool) where
-  pub record CreatePassed : Type 0 where
-    pub fit : p Unfit ≡ false
-    pub room : p Exhausted ≡ false
-    pub free : p Full ≡ false
-
-  pub create-passed : isDone (judge p createOrder) ≡ true → CreatePassed
-  create-passed h =
-      let a = down p Absent (Unlisted ∷ Busy ∷ Early ∷ NotCurrent ∷ Unfit ∷ Exhausted ∷ Full ∷ []) refl h in
-      let b = down p Unlisted (Busy ∷ Early ∷ NotCurrent ∷ Unfit ∷ Exhausted ∷ Full ∷ []) refl (a .1) in
-      let c = down p Busy (Early ∷ NotCurrent ∷ Unfit ∷ Exhausted ∷ Full ∷ []) refl (b .1) in
-      let d = down p Early (NotCurrent ∷ Unfit ∷ Exhausted ∷ Full ∷ []) refl (c .1) in
-      let e = down p NotCurrent (Unfit ∷ Exhausted ∷ Full ∷ []) refl (d .1) in
-      let f = down p Unfit (Exhausted ∷ Full ∷ []) refl (e .1) in
-      let g = down p Exhausted (Full ∷ []) refl (f .1) in
-      record { fit = f .0; room = g .0; free = down p Full [] refl (g .1) .0 }
-
-  pub record OtherPassed : Type 0 where
-    pub standing : p Standless ≡ false
-    pub status : p Misplaced ≡ false
-    pub idle : p Busy ≡ false
-
-  pub other-passed : isDone (judge p otherOrder) ≡ true → OtherPassed
-  other-passed h =
-      let a = down p Absent (Unknown ∷ Standless ∷ Misplaced ∷ Busy ∷ Early ∷ Unawaited ∷ []) refl h in
-      let b = down p Unknown (Standless ∷ Misplaced ∷ Busy ∷ Early ∷ Unawaited ∷ []) refl (a .1) in
-      let c = down p Standless (Misplaced ∷ Busy ∷ Early ∷ Unawaited ∷ []) refl (b .1) in
-      let d = down p Misplaced (Busy ∷ Early ∷ Unawaited ∷ []) refl (c .1) in
-      record { standing = c .0; status = d .0; idle = down p Busy (Early ∷ Unawaited ∷ []) refl (d .1) .0 }
-
-  pub answer-passed : isDone (judge p answerOrder) ≡ true → p Unawaited ≡ false
-  answer-passed h =
-      let a = down p Absent (Unknown ∷ Unawaited ∷ Early ∷ []) refl h in
-      let b = down p Unknown (Unawaited ∷ Early ∷ []) refl (a .1) in
-      down p Unawaited (Early ∷ []) refl (b .1) .0
+use Rattle.model.specs.declared.Outcome.the-variants.{Malformed, Standless, Misplaced, Unfit, Busy, Unawaited, Exhausted}
 
 -- the grid lets it pass
 allowed : (e : Event) (v : Version) → lacksStanding e v ≡ false → wrongStatus e v ≡ false → Allowed e v
@@ -97,14 +53,11 @@ module _ (lineOf : ℕ → ℕ) (s : Setting) (small : soundRetries (s .most) �
   unfolding accepted unfit exhausted
   when-create k d = rw k (keeps-creates lineOf e formed r ground k room fit)
     where
-      f : CreatePassed (refuses G)
-      f = create-passed (refuses G) d
-
       room : isNone (workedOne r) ≡ true → newest r < 65535
-      room q = leb-false 65535 (newest r) (rw q at (f .room))
+      room q = leb-false 65535 (newest r) (rw q at (refusal-passed (refuses G) createOrder Exhausted refl refl d))
 
       fit : (v : Version) → workedOne r ≡ some v → fits e v ≡ true
-      fit v q = not-false (fits e v) (rw q at (f .fit))
+      fit v q = not-false (fits e v) (rw q at (refusal-passed (refuses G) createOrder Unfit refl refl d))
 
   when-answer : isCreate (e .kind) ≡ false → isAnswer (e .kind) ≡ true → isDone (judge (refuses G) answerOrder) ≡ true → Keeps r (accepted G)
   unfolding accepted unawaited
@@ -112,17 +65,17 @@ module _ (lineOf : ℕ → ℕ) (s : Setting) (small : soundRetries (s .most) �
       rw (c, a) (keeps-found (found G) (ground .line) (λ v q. keeps-answers lineOf e formed r ground (s .most) few v q a (waits v q)))
     where
       waits : (v : Version) → found G ≡ some v → awaited e v ≡ true
-      waits v q = not-false (awaited e v) (rw (a, q) at (answer-passed (refuses G) d))
+      waits v q = not-false (awaited e v) (rw (a, q) at (refusal-passed (refuses G) answerOrder Unawaited refl refl d))
 
   when-other : isCreate (e .kind) ≡ false → isAnswer (e .kind) ≡ false → isDone (judge (refuses G) otherOrder) ≡ true → Keeps r (accepted G)
   unfolding accepted busy
   when-other c a d =
       rw (c, a)
       (keeps-found (found G) (ground .line) (λ v q.
-      keeps-manages lineOf e formed r ground v q (allowed e v (rw q at (f .standing)) (rw q at (f .status))) (s .books) (rw (c, q) at (f .idle))))
+      keeps-manages lineOf e formed r ground v q (allowed e v (rw q at (past Standless refl)) (rw q at (past Misplaced refl))) (s .books) (rw (c, q) at (past Busy refl))))
     where
-      f : OtherPassed (refuses G)
-      f = other-passed (refuses G) d
+      past : (o : Outcome) → StandsIn o otherOrder → refuses G o ≡ false
+      past o i = refusal-passed (refuses G) otherOrder o refl i d
 
   keeps-accepted : isDone (judge (refuses G) (orderOf (e .kind))) ≡ true → Keeps r (accepted G)
   keeps-accepted d = go (isCreate (e .kind)) refl (isAnswer (e .kind)) refl

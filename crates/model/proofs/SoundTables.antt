@@ -14,7 +14,7 @@ use Rattle.model.specs.Books.{soundRetries}
 use Rattle.model.specs.Table.{order, sel, Change, put, Under, Rising, rowsOf, changes, adds}
 use Rattle.model.specs.Sound.{soundVersion, oneEach, above, rising, soundLines, soundTable, count, live, sends, worked}
 use Rattle.model.specs.Record.{isCreate, isAnswer, isBroadcast, wellFormed}
-use Rattle.model.specs.Outcomes.{isDone, judge, orderOf}
+use Rattle.model.specs.Outcomes.{isDone, judge, orderOf, createOrder}
 use Rattle.model.specs.Given.{Given, Result, refuse, accept, found, rest, workedOne}
 use Rattle.model.specs.Creates.{creates, createOn}
 use Rattle.model.specs.Changes.{modifies, turns, cancelled, acknowledged, resolved, windowRuns, windowMarked, windowTurned, marks}
@@ -31,11 +31,12 @@ use Rattle.model.proofs.Locality.{ruleIn, local, adds-settles}
 use Rattle.model.proofs.SoundRows.{Row, row-of, of-row}
 use Rattle.model.proofs.SoundLines.{Line}
 use Rattle.model.proofs.SoundLaws.{Sound, sound-after}
-use Rattle.model.proofs.SoundStep.{create-passed, keeps-rule}
+use Rattle.model.proofs.Outcomes.{refusal-passed}
+use Rattle.model.proofs.SoundStep.{keeps-rule}
 use Rattle.model.specs.declared.Id.{Id}
 use Rattle.model.specs.declared.Event.{Event}
 use Rattle.model.specs.declared.Version.{Version}
-use Rattle.model.specs.declared.Outcome.the-variants.{Malformed}
+use Rattle.model.specs.declared.Outcome.the-variants.{Malformed, Full}
 
 -- ---- rising
 
@@ -174,7 +175,7 @@ adds-room G d = go (isCreate (G .event .kind)) refl (isAnswer (G .event .kind)) 
     fresh : isCreate (G .event .kind) ≡ true → (o : Option Version) → workedOne (G .rows) ≡ o → adds (createOn (G .event) (G .rows) o .does) ≤ room (G .free)
     fresh k (some v) q = omega arith
     fresh k nothing q =
-        let f : full G ≡ false = create-passed (refuses G) (rw k at d) .free in
+        let f : full G ≡ false = refusal-passed (refuses G) createOrder Full refl refl (rw k at d) in
         let y : G .free ≡ true = not-false (G .free) (rw q at f) in
         rw y (omega arith)
 
