@@ -1,7 +1,7 @@
 -- Outcomes by their numbers, and what it is to pass an order of refusals.
 -- Assumes nothing.
 use mathlib.Core.Path.{_≡_, refl, sym, _∙_}
-use Prim.Native.Nat.{ℕ, _<_}
+use Prim.Native.Nat.{_<_}
 use mathlib.Core.Bool.{Bool, true, false, cond, not}
 use mathlib.Core.List.{List, [], _∷_}
 use mathlib.Core.Option.{some}
@@ -51,7 +51,8 @@ abbrev pub refusals : List Outcome → Bool
 refusals os = all (λ (o : Outcome). not (isDone o)) os
 
 -- an event that passes an order has each of its predicates false
-pub order-passed : (p : Outcome → Bool) (os : List Outcome) → refusals os ≡ true → isDone (judge p os) ≡ true → All (λ (o : Outcome). p o ≡ false) os
+pub order-passed : (p : Outcome → Bool) (os : List Outcome) → refusals os ≡ true → isDone (judge p os) ≡ true
+    → All (λ (o : Outcome). p o ≡ false) os
 order-passed p [] n h = none
 order-passed p (o ∷ os) n h =
     let past = one (p o) (not-true (isDone o) (and-l (not (isDone o)) (refusals os) n)) h in
@@ -66,5 +67,6 @@ abbrev pub StandsIn : Outcome → List Outcome → Type 0
 StandsIn o os = first (λ (x : Outcome). eqb (numberOf x) (numberOf o)) os ≡ some o
 
 -- the same of one predicate; for an order and an outcome that are written out, both tests are computed
-pub refusal-passed : (p : Outcome → Bool) (os : List Outcome) (o : Outcome) → refusals os ≡ true → StandsIn o os → isDone (judge p os) ≡ true → p o ≡ false
+pub refusal-passed : (p : Outcome → Bool) (os : List Outcome) (o : Outcome) → refusals os ≡ true → StandsIn o os
+    → isDone (judge p os) ≡ true → p o ≡ false
 refusal-passed p os o n s h = all-first (λ (x : Outcome). eqb (numberOf x) (numberOf o)) o (order-passed p os n h) s

@@ -71,6 +71,10 @@ pub heard-id : (most : ℕ) (g : Event) (v : Version) → heard most g v .id ≡
 unfolding heard
 heard-id most g v = refl
 
+-- an answer for the version is heard
+abbrev Hears : Event → Version → Type 0
+Hears e v = isDone (unheard e v) ≡ true
+
 -- ---- one answer that is heard, where somebody else still waits
 answers-open : (most : ℕ) (g : Event) (v : Version) (others : List Version) → open? (heard most g v) ≡ true
     → answers most g v others ≡ accept (askedAgain most g v) (put (heard most g v) ∷ [])
@@ -206,7 +210,7 @@ module _ (line : ℕ → ℕ) (s : Setting) where
       if-deaf : (t : List Version) (v : Version) → find k (rowsOf line l t) ≡ some v → isDone (unheard g v) ≡ false → S g t ≡ refuse (unheard g v)
       if-deaf t v h u = if-found t v h ∙ rw u
 
-      if-heard : (t : List Version) (v : Version) → find k (rowsOf line l t) ≡ some v → isDone (unheard g v) ≡ true
+      if-heard : (t : List Version) (v : Version) → find k (rowsOf line l t) ≡ some v → Hears g v
           → S g t ≡ answers (s .most) g v (others k (rowsOf line l t))
       if-heard t v h u = if-found t v h ∙ rw u
 
@@ -217,7 +221,7 @@ module _ (line : ℕ → ℕ) (s : Setting) where
           (subst (λ (m : ℕ). Near line m (S g t .does)) own (fine line (ruleIn s) (local line s) (s .rows) g t .near)) r
 
       -- the version after one that is heard
-      found-after : (t : List Version) (v : Version) → Rising t → find k (rowsOf line l t) ≡ some v → isDone (unheard g v) ≡ true
+      found-after : (t : List Version) (v : Version) → Rising t → find k (rowsOf line l t) ≡ some v → Hears g v
           → find k (rowsOf line l (A g t)) ≡ some (settled (heard (s .most) g v))
       unfolding answers heard
       found-after t v r h u =
@@ -226,11 +230,11 @@ module _ (line : ℕ → ℕ) (s : Setting) where
           ∙ find-put k (rowsOf line l t) v (settled (heard (s .most) g v)) h (settled-id (heard (s .most) g v) ∙ find-name k (rowsOf line l t) v h)
 
       -- the same where somebody else waits: the version is the one it put, and the other rows are as before
-      open-step : (t : List Version) (v : Version) → find k (rowsOf line l t) ≡ some v → isDone (unheard g v) ≡ true → open? (heard (s .most) g v) ≡ true
+      open-step : (t : List Version) (v : Version) → find k (rowsOf line l t) ≡ some v → Hears g v → open? (heard (s .most) g v) ≡ true
           → S g t ≡ accept (askedAgain (s .most) g v) (put (heard (s .most) g v) ∷ [])
       open-step t v h u o = if-heard t v h u ∙ answers-open (s .most) g v (others k (rowsOf line l t)) o
 
-      open-rows : (t : List Version) (v : Version) → Rising t → find k (rowsOf line l t) ≡ some v → isDone (unheard g v) ≡ true
+      open-rows : (t : List Version) (v : Version) → Rising t → find k (rowsOf line l t) ≡ some v → Hears g v
           → open? (heard (s .most) g v) ≡ true → rowsOf line l (A g t) ≡ change (put (heard (s .most) g v)) (rowsOf line l t)
       open-rows t v r h u o = rows-after t r ∙ ap (λ (x : Result). changes (x .does) (rowsOf line l t)) (open-step t v h u o)
 
@@ -244,7 +248,7 @@ module _ (line : ℕ → ℕ) (s : Setting) where
     free : isDone (barred g) ≡ true
     system : 1 ≤ answering g
 
-  awaits : (g : Event) (v : Version) → isDone (unheard g v) ≡ true → awaited g v ≡ true
+  awaits : (g : Event) (v : Version) → Hears g v → awaited g v ≡ true
   awaits g v h = go (awaited g v) refl h
     where
       go : (b : Bool) → awaited g v ≡ b → isDone (cond (not b) Unawaited (cond (beforeStart g v) Early Done)) ≡ true → awaited g v ≡ true
@@ -269,7 +273,8 @@ module _ (line : ℕ → ℕ) (s : Setting) where
             let same : unheard e w ≡ unheard e v =
             unheard-settled e (heard (s .most) f v)
             ∙ unheard-other (s .most) small f e v (yf .system) (ye .system) (λ x. d (sym x)) (awaits f v q) in
-            if-deaf e (ye .isA) k (ye .name) l (ye .own) (ye .free) (A f t) w (found-after f (yf .isA) k (yf .name) l (yf .own) (yf .free) t v r h q)
+            if-deaf e (ye .isA) k (ye .name) l (ye .own) (ye .free) (A f t) w
+            (found-after f (yf .isA) k (yf .name) l (yf .own) (yf .free) t v r h q)
             (ap isDone same ∙ ue)
             ∙ ap refuse same
         go false q = ap (S e) (ap (λ (x : Result). changes (x .does) t) (if-deaf f (yf .isA) k (yf .name) l (yf .own) (yf .free) t v h q)) ∙ p
@@ -282,17 +287,18 @@ module _ (line : ℕ → ℕ) (s : Setting) where
 
     module _ (v : Version) (h : find k R ≡ some v) where
       -- what the other gets after the first is what it gets as things are
-      unmoved : (e f : Event) → Ready e k l → Ready f k l → (answering e ≡ answering f → ⊥) → isDone (unheard e v) ≡ true
+      unmoved : (e f : Event) → Ready e k l → Ready f k l → (answering e ≡ answering f → ⊥) → Hears e v
           → unheard f (heard (s .most) e v) ≡ unheard f v
       unmoved e f ye yf d ue = unheard-other (s .most) small e f v (ye .system) (yf .system) d (awaits e v ue)
 
       -- the first of two that are heard leaves the broadcast open
-      still-open : (e f : Event) → Ready e k l → Ready f k l → (answering e ≡ answering f → ⊥) → isDone (unheard e v) ≡ true → isDone (unheard f v) ≡ true
+      still-open : (e f : Event) → Ready e k l → Ready f k l → (answering e ≡ answering f → ⊥) → Hears e v → Hears f v
           → open? (heard (s .most) e v) ≡ true
-      still-open e f ye yf d ue uf = open-waits f (heard (s .most) e v) (awaits f (heard (s .most) e v) (ap isDone (unmoved e f ye yf d ue) ∙ uf))
+      still-open e f ye yf d ue uf =
+          open-waits f (heard (s .most) e v) (awaits f (heard (s .most) e v) (ap isDone (unmoved e f ye yf d ue) ∙ uf))
 
       -- and the second finds what the first has put
-      second-step : (e f : Event) → Ready e k l → Ready f k l → (answering e ≡ answering f → ⊥) → isDone (unheard e v) ≡ true → isDone (unheard f v) ≡ true
+      second-step : (e f : Event) → Ready e k l → Ready f k l → (answering e ≡ answering f → ⊥) → Hears e v → Hears f v
           → S f (A e t) ≡ answers (s .most) f (heard (s .most) e v) (others k R)
       unfolding heard
       second-step e f ye yf d ue uf =
@@ -300,10 +306,11 @@ module _ (line : ℕ → ℕ) (s : Setting) where
           let n : v .id ≡ k = find-name k R v h in
           let er : rowsOf line l (A e t) ≡ change (put w) R =
           open-rows e (ye .isA) k (ye .name) l (ye .own) (ye .free) t v r h ue (still-open e f ye yf d ue uf) in
-          if-heard f (yf .isA) k (yf .name) l (yf .own) (yf .free) (A e t) w (ap (find k) er ∙ find-put k R v w h n) (ap isDone (unmoved e f ye yf d ue) ∙ uf)
+          if-heard f (yf .isA) k (yf .name) l (yf .own) (yf .free) (A e t) w (ap (find k) er ∙ find-put k R v w h n)
+          (ap isDone (unmoved e f ye yf d ue) ∙ uf)
           ∙ ap (answers (s .most) f w) (ap (others k) er ∙ part-out (notNamed k) (put w) R (named-out k (v .id) n))
 
-      both-heard : (e f : Event) → Ready e k l → Ready f k l → (answering e ≡ answering f → ⊥) → isDone (unheard e v) ≡ true → isDone (unheard f v) ≡ true → Both e f t
+      both-heard : (e f : Event) → Ready e k l → Ready f k l → (answering e ≡ answering f → ⊥) → Hears e v → Hears f v → Both e f t
       unfolding answers
       both-heard e f ye yf d ue uf =
           let m : ℕ = s .most in

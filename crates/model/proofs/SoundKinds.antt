@@ -4,7 +4,7 @@ use mathlib.Core.Path.{_≡_, refl, ap, _∙_, subst}
 use Prim.Native.Nat.{ℕ, suc, _≤_, _<_}
 use mathlib.Core.Bool.{Bool, true, false, cond, _&&_, _||_}
 use mathlib.Core.List.{List, [], _∷_}
-use mathlib.Core.Option.{Option, none as nothing, some}
+use mathlib.Core.Option.{none as nothing, some}
 use lib.Dec.{eqb}
 use native.Mathlib.Omega.{arith}
 use Rattle.model.specs.Basics.{among, any, isNone, none, with}
@@ -12,17 +12,18 @@ use Rattle.model.specs.Numbers.{isSet, codeOf}
 use Rattle.model.specs.Books.{Books}
 use Rattle.model.specs.Table.{put, add, change, find, others, Rising}
 use Rattle.model.specs.Sound.{pending, conflict, cancelPending, canceled, no, isSending, isWorked, activate, count, live, sends, worked}
-use Rattle.model.specs.Record.{isCreate, isAnswer, isBroadcast, wellFormed}
+use Rattle.model.specs.Record.{isCreate, isModify, isAnswer, isBroadcast, wellFormed}
 use Rattle.model.specs.Selection.{selectedFor, selects}
 use Rattle.model.specs.Standing.{standingOf}
 use Rattle.model.specs.Given.{accept, nameIn, newest, workedOne}
 use Rattle.model.specs.Creates.{oldIn, oldAbsent, oldJoined, freshVersion, fits, concurred, createOn, creates}
-use Rattle.model.specs.Changes.{newModified, oldModified, modifies, turns, turned, cancelled, acknowledged, resolved, marks, windowTurned, windowMarked, windowRuns}
+use Rattle.model.specs.Changes.{newModified, oldModified, modifies, turns, turned, cancelled, acknowledged, resolved, windowTurned, windowMarked, windowMarks}
 use Rattle.model.specs.Broadcast.{opened, broadcasts}
 use Rattle.model.specs.Answers.{answering, awaited, heard, answers}
 use Rattle.model.specs.Refusals.{busyWith}
 use Rattle.model.specs.Step.{purges, manages}
 use Rattle.model.proofs.Lists.{clash, or-off, all-first, first-true, or-but, back-equal}
+use Rattle.model.proofs.Ways.{by-way, by-worked}
 use Rattle.model.proofs.TableLaws.{find-name}
 use Rattle.model.proofs.Formed.{Fields, fields, answering-named}
 use Rattle.model.proofs.Replies.{heard-id}
@@ -34,7 +35,7 @@ use Rattle.model.proofs.SoundOpened.{Allowed, purpose-lasts, casting-op
 use Rattle.model.proofs.SoundSides.{row-concurred, row-new-modified, row-old-modified, row-cancelled, row-acknowledged, row-resolved, window-status, row-window-turned, row-window-marked, open-status}
 use Rattle.model.proofs.SoundFresh.{row-fresh}
 use Rattle.model.proofs.SoundLines.{Line, one, all-find, found-self, count-found, count-put, count-strike, count-add, first-none, any-none, line-put}
-use Rattle.model.proofs.SoundLaws.{Keeps, Ground, keeps-if, keeps-settled}
+use Rattle.model.proofs.SoundLaws.{Keeps, Ground, keeps-settled}
 use Rattle.model.specs.declared.Id.{Id}
 use Rattle.model.specs.declared.Tn.{Tn}
 use Rattle.model.specs.declared.Event.{Event}
@@ -124,7 +125,7 @@ module _ (lineOf : ℕ → ℕ) (e : Event) (formed : wellFormed e ≡ true) (r 
     not-sending : (s : ℕ) → Calm s → isSending s ≡ false
     not-sending s c = c .no3
 
-    keeps-modifies : among (e .kind) (3 ∷ 4 ∷ []) ≡ true → Keeps r (modifies e v)
+    keeps-modifies : isModify (e .kind) ≡ true → Keeps r (modifies e v)
     unfolding newModified oldModified
     keeps-modifies q = go (eqb (e .kind) 3) refl (eqb (e .kind) 4) refl
       where
@@ -164,29 +165,33 @@ module _ (lineOf : ℕ → ℕ) (e : Event) (formed : wellFormed e ≡ true) (r 
     keeps-resolved q =
         keeps-calm (resolved e v) _ refl refl (back-equal (v .status) 1 (λ (s : ℕ). isWorked s ≡ true) (status-of e v al 8 q) refl) refl (row-resolved e formed v row al q)
 
-    keeps-window : eqb (e .kind) 13 ≡ true → Keeps r (windowRuns e v)
-    unfolding windowRuns windowMarked windowTurned
-    keeps-window q =
-        keeps-if (marks v)
-        (λ _. keeps-calm (windowMarked e v) _ refl refl works (calm-worked (v .status) works .no3) (row-window-marked e formed v row al q))
-        (λ _. keeps-calm (windowTurned e v) _ (id-of (eqb (v .status) cancelPending)) (live-of (eqb (v .status) cancelPending)) works
-        (calm-of (eqb (v .status) cancelPending) (eqb (v .canceller) 1)) (row-window-turned e formed v row al q))
-      where
-        works : worked v ≡ true
-        works = window-status e formed v row al q
+    module _ (q : eqb (e .kind) 13 ≡ true) where
+      works : worked v ≡ true
+      works = window-status e formed v row al q
 
-        id-of : (b : Bool) → cond b (turned e v (cond (eqb (v .canceller) 1) canceled conflict) 0 (v .window)) (turned e v canceled (v .canceller) (v .window)) .id ≡ v .id
-        id-of true = refl
-        id-of false = refl
+      keeps-marked : Keeps r (windowMarks e v)
+      unfolding windowMarked
+      keeps-marked =
+          keeps-calm (windowMarked e v) _ refl refl works (calm-worked (v .status) works .no3) (row-window-marked e formed v row al q)
 
-        live-of : (b : Bool) → cond b (turned e v (cond (eqb (v .canceller) 1) canceled conflict) 0 (v .window)) (turned e v canceled (v .canceller) (v .window)) .live ≡ v .live
-        live-of true = refl
-        live-of false = refl
+      keeps-turned : Keeps r (turns (windowTurned e v))
+      unfolding windowTurned
+      keeps-turned =
+          keeps-calm (windowTurned e v) _ (id-of (eqb (v .status) cancelPending)) (live-of (eqb (v .status) cancelPending)) works
+          (calm-of (eqb (v .status) cancelPending) (eqb (v .canceller) 1)) (row-window-turned e formed v row al q)
+        where
+          id-of : (b : Bool) → cond b (turned e v (cond (eqb (v .canceller) 1) canceled conflict) 0 (v .window)) (turned e v canceled (v .canceller) (v .window)) .id ≡ v .id
+          id-of true = refl
+          id-of false = refl
 
-        calm-of : (b c : Bool) → sends (cond b (turned e v (cond c canceled conflict) 0 (v .window)) (turned e v canceled (v .canceller) (v .window))) ≡ false
-        calm-of true true = refl
-        calm-of true false = refl
-        calm-of false c = refl
+          live-of : (b : Bool) → cond b (turned e v (cond (eqb (v .canceller) 1) canceled conflict) 0 (v .window)) (turned e v canceled (v .canceller) (v .window)) .live ≡ v .live
+          live-of true = refl
+          live-of false = refl
+
+          calm-of : (b c : Bool) → sends (cond b (turned e v (cond c canceled conflict) 0 (v .window)) (turned e v canceled (v .canceller) (v .window))) ≡ false
+          calm-of true true = refl
+          calm-of true false = refl
+          calm-of false c = refl
 
     keeps-strike : Keeps r (purges v)
     keeps-strike = record {
@@ -228,19 +233,22 @@ module _ (lineOf : ℕ → ℕ) (e : Event) (formed : wellFormed e ≡ true) (r 
 
     -- ---- all of them
     pub keeps-manages : (bk : Books) → busyWith e r (others K r) v ≡ false → Keeps r (manages bk e v (others K r))
-    unfolding manages busyWith
-    keeps-manages bk free =
-        keeps-if (among (e .kind) (3 ∷ 4 ∷ [])) (λ q. keeps-modifies q)
-        (λ _. keeps-if (eqb (e .kind) 6) (λ q. keeps-cancelled q)
-        (λ _. keeps-if (eqb (e .kind) 7) (λ q. keeps-acknowledged q)
-        (λ _. keeps-if (eqb (e .kind) 8) (λ q. keeps-resolved q)
-        (λ _. keeps-if (eqb (e .kind) 13) (λ q. keeps-window q)
-        (λ _. keeps-if (isBroadcast (e .kind)) (λ q. keeps-broadcasts bk q (or-off (any sends (others K r)) _ (rw q at free) .0)) (λ _. keeps-strike))))))
+    unfolding busyWith
+    keeps-manages bk free = by-way (Keeps r) bk e v (others K r) (record {
+      modify = keeps-modifies;
+      cancel = keeps-cancelled;
+      acknowledge = keeps-acknowledged;
+      resolve = keeps-resolved;
+      mark = λ q _. keeps-marked q;
+      turn = λ q _. keeps-turned q;
+      broadcast = λ q. keeps-broadcasts bk q (or-off (any sends (others K r)) _ (rw q at free) .0);
+      purge = keeps-strike;
+    })
 
   -- ---- creates
   pub keeps-creates : isCreate (e .kind) ≡ true → (isNone (workedOne r) ≡ true → newest r < 65535) → ((v : Version) → workedOne r ≡ some v → fits e v ≡ true) → Keeps r (creates e r)
-  unfolding creates
-  keeps-creates k room fit = go (workedOne r) refl
+  keeps-creates k room fit =
+      by-worked (Keeps r) e r (λ q. record { rows = with (row-fresh e formed r (room (ap isNone q)) k) none; line = line-fresh q }) concurs
     where
       line-fresh : workedOne r ≡ nothing → Line (change (add (freshVersion e r)) r)
       line-fresh q = record {
@@ -249,9 +257,8 @@ module _ (lineOf : ℕ → ℕ) (e : Event) (formed : wellFormed e ≡ true) (r 
         works = omega (arith, first-none worked r q, count-add worked (freshVersion e r) r, one-le (worked (freshVersion e r)));
       }
 
-      go : (o : Option Version) → workedOne r ≡ o → Keeps r (createOn e r o)
-      go nothing q = record { rows = with (row-fresh e formed r (room (ap isNone q)) k) none; line = line-fresh q }
-      go (some v) q =
+      concurs : (v : Version) → workedOne r ≡ some v → Keeps r (createOn e r (some v))
+      concurs v q =
           let at : find (v .id) r ≡ some v = all-first {P = λ (x : Version). find (x .id) r ≡ some x} worked v (found-self r (g .rising)) q in
           let works : worked v ≡ true = first-true worked r v q in
           let row : Row v = all-find (v .id) v (g .rows) at in

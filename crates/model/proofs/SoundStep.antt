@@ -3,30 +3,31 @@
 use mathlib.Core.Path.{_≡_, refl, sym}
 use Prim.Native.Nat.{ℕ, _≤_, _<_}
 use mathlib.Core.Bool.{Bool, true, false, cond}
-use mathlib.Core.List.{List, [], _∷_}
+use mathlib.Core.List.{List}
 use mathlib.Core.Option.{some}
 use lib.Dec.{eqb}
 use borrow.Author.Tests.{leb-true, leb-false, not-false}
 use Rattle.model.specs.Basics.{isNone}
 use Rattle.model.specs.Books.{soundRetries}
 use Rattle.model.specs.Record.{isCreate, isAnswer, wellFormed}
-use Rattle.model.specs.Outcomes.{isDone, judge, orderOf, createOrder, answerOrder, otherOrder}
+use Rattle.model.specs.Outcomes.{isDone, judge, createOrder, answerOrder, otherOrder}
 use Rattle.model.specs.Standing.{standingOf, standsFor, statusFor, gridRule, unready, lacksStanding, wrongStatus}
-use Rattle.model.specs.Given.{Given, found, newest, workedOne}
-use Rattle.model.specs.Creates.{fits}
-use Rattle.model.specs.Answers.{awaited}
-use Rattle.model.specs.Refusals.{busy, unawaited, unfit, exhausted, refuses, idle}
-use Rattle.model.specs.Step.{accepted, rule, Setting, line}
+use Rattle.model.specs.Given.{Given, found, rest, newest, workedOne}
+use Rattle.model.specs.Creates.{fits, creates}
+use Rattle.model.specs.Answers.{awaited, answers}
+use Rattle.model.specs.Refusals.{busy, unawaited, unfit, exhausted, refuses}
+use Rattle.model.specs.Step.{manages, accepted, judged, Setting}
 use Rattle.model.proofs.Lists.{clash, or-off}
+use Rattle.model.proofs.Ways.{by-test, by-kind, by-order}
 use Rattle.model.proofs.Outcomes.{StandsIn, refusal-passed}
 use Rattle.model.proofs.Locality.{ruleIn}
 use Rattle.model.proofs.SoundOpened.{Allowed}
-use Rattle.model.proofs.SoundLaws.{Keeps, Ground, keeps-refuse, keeps-if, keeps-found}
+use Rattle.model.proofs.SoundLaws.{Keeps, Ground, keeps-refuse}
 use Rattle.model.proofs.SoundKinds.{keeps-manages, keeps-creates, keeps-answers}
 use Rattle.model.specs.declared.Event.{Event}
 use Rattle.model.specs.declared.Version.{Version}
 use Rattle.model.specs.declared.Outcome.{Outcome}
-use Rattle.model.specs.declared.Outcome.the-variants.{Malformed, Standless, Misplaced, Unfit, Busy, Unawaited, Exhausted}
+use Rattle.model.specs.declared.Outcome.the-variants.{Malformed, Unknown, Standless, Misplaced, Unfit, Busy, Unawaited, Exhausted}
 
 -- the grid lets it pass
 allowed : (e : Event) (v : Version) → lacksStanding e v ≡ false → wrongStatus e v ≡ false → Allowed e v
@@ -49,9 +50,9 @@ module _ (lineOf : ℕ → ℕ) (s : Setting) (small : soundRetries (s .most) �
   few : s .most ≤ 7
   few = leb-true (s .most) 7 small
 
-  when-create : isCreate (e .kind) ≡ true → isDone (judge (refuses G) createOrder) ≡ true → Keeps r (accepted G)
-  unfolding accepted unfit exhausted
-  when-create k d = rw k (keeps-creates lineOf e formed r ground k room fit)
+  when-create : isDone (judge (refuses G) createOrder) ≡ true → isCreate (e .kind) ≡ true → Keeps r (creates e r)
+  unfolding unfit exhausted
+  when-create d k = keeps-creates lineOf e formed r ground k room fit
     where
       room : isNone (workedOne r) ≡ true → newest r < 65535
       room q = leb-false 65535 (newest r) (rw q at (refusal-passed (refuses G) createOrder Exhausted refl refl d))
@@ -59,37 +60,35 @@ module _ (lineOf : ℕ → ℕ) (s : Setting) (small : soundRetries (s .most) �
       fit : (v : Version) → workedOne r ≡ some v → fits e v ≡ true
       fit v q = not-false (fits e v) (rw q at (refusal-passed (refuses G) createOrder Unfit refl refl d))
 
-  when-answer : isCreate (e .kind) ≡ false → isAnswer (e .kind) ≡ true → isDone (judge (refuses G) answerOrder) ≡ true → Keeps r (accepted G)
-  unfolding accepted unawaited
-  when-answer c a d =
-      rw (c, a) (keeps-found (found G) (ground .line) (λ v q. keeps-answers lineOf e formed r ground (s .most) few v q a (waits v q)))
+  when-answer : isDone (judge (refuses G) answerOrder) ≡ true → isAnswer (e .kind) ≡ true → (v : Version) → found G ≡ some v
+      → Keeps r (answers (s .most) e v (rest G))
+  unfolding unawaited
+  when-answer d a v q = keeps-answers lineOf e formed r ground (s .most) few v q a waits
     where
-      waits : (v : Version) → found G ≡ some v → awaited e v ≡ true
-      waits v q = not-false (awaited e v) (rw (a, q) at (refusal-passed (refuses G) answerOrder Unawaited refl refl d))
+      waits : awaited e v ≡ true
+      waits = not-false (awaited e v) (rw (a, q) at (refusal-passed (refuses G) answerOrder Unawaited refl refl d))
 
-  when-other : isCreate (e .kind) ≡ false → isAnswer (e .kind) ≡ false → isDone (judge (refuses G) otherOrder) ≡ true → Keeps r (accepted G)
-  unfolding accepted busy
-  when-other c a d =
-      rw (c, a)
-      (keeps-found (found G) (ground .line) (λ v q.
-      keeps-manages lineOf e formed r ground v q (allowed e v (rw q at (past Standless refl)) (rw q at (past Misplaced refl))) (s .books) (rw (c, q) at (past Busy refl))))
+  when-other : isDone (judge (refuses G) otherOrder) ≡ true → isCreate (e .kind) ≡ false → (v : Version) → found G ≡ some v
+      → Keeps r (manages (s .books) e v (rest G))
+  unfolding busy
+  when-other d c v q =
+      keeps-manages lineOf e formed r ground v q (allowed e v (rw q at (past Standless refl)) (rw q at (past Misplaced refl))) (s .books)
+      (rw (c, q) at (past Busy refl))
     where
       past : (o : Outcome) → StandsIn o otherOrder → refuses G o ≡ false
       past o i = refusal-passed (refuses G) otherOrder o refl i d
 
-  keeps-accepted : isDone (judge (refuses G) (orderOf (e .kind))) ≡ true → Keeps r (accepted G)
-  keeps-accepted d = go (isCreate (e .kind)) refl (isAnswer (e .kind)) refl
-    where
-      go : (a : Bool) → isCreate (e .kind) ≡ a → (b : Bool) → isAnswer (e .kind) ≡ b → Keeps r (accepted G)
-      go true p b q = when-create p (rw p at d)
-      go false p true q = when-answer p q (rw (p, q) at d)
-      go false p false q = when-other p q (rw (p, q) at d)
+  keeps-accepted : isDone (judged G) ≡ true → Keeps r (accepted G)
+  keeps-accepted d = by-kind (Keeps r) G (record {
+    create = λ c. when-create (rw c at d) c;
+    answer = λ c a v q. when-answer (rw (c, a) at d) a v q;
+    manage = λ c a v q. when-other (rw (c, a) at d) c v q;
+    unknown = keeps-refuse Unknown r (ground .line);
+  })
 
 pub keeps-rule : (lineOf : ℕ → ℕ) (s : Setting) → soundRetries (s .most) ≡ true → (free : Bool) (e : Event) (r : List Version) → Ground lineOf (lineOf (e .tn .0)) r
     → Keeps r (ruleIn s free e r)
-unfolding rule
 keeps-rule lineOf s small free e r g =
-    keeps-if (wellFormed e)
-    (λ formed. keeps-if (isDone (judge (refuses (record { books = s .books; most = s .most; free = free; event = e; rows = r })) (orderOf (e .kind))))
-    (λ d. keeps-accepted lineOf s small free e formed r g d) (λ _. keeps-refuse _ r (g .line)))
+    by-test (Keeps r) (wellFormed e)
+    (λ formed. by-order (Keeps r) _ (λ d. keeps-accepted lineOf s small free e formed r g d) (λ _. keeps-refuse _ r (g .line)))
     (λ _. keeps-refuse Malformed r (g .line))

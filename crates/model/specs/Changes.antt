@@ -114,5 +114,8 @@ marks v = eqb (v .status) pending && v .new .created
 unfoldable pub windowSpent : Version → Bool
 windowSpent v = marks v && (v .old .created || v .window)
 
+abbrev pub windowMarks : Event → Version → Result
+windowMarks e v = accept (windowTold (windowMarked e v)) (put (windowMarked e v) ∷ [])
+
 unfoldable pub windowRuns : Event → Version → Result
-windowRuns e v = cond (marks v) (accept (windowTold (windowMarked e v)) (put (windowMarked e v) ∷ [])) (turns (windowTurned e v))
+windowRuns e v = cond (marks v) (windowMarks e v) (turns (windowTurned e v))
