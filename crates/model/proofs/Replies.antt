@@ -22,7 +22,7 @@ use Rattle.model.specs.Exchange.{mailOf}
 use Rattle.model.proofs.Lists.{keep-append, all-keep, passed, clash}
 use Rattle.model.proofs.Order.{order-self}
 use Rattle.model.proofs.TableLaws.{put-cover, find-name, find-put, find-other, part-out}
-use Rattle.model.proofs.Exchanges.{Commute, turned}
+use Rattle.model.proofs.Exchanges.{Commutes, turned, stepping, reads}
 use Rattle.model.proofs.Apart.{Near, stepBy, rows-in, fine}
 use Rattle.model.proofs.Locality.{ruleIn, local}
 use Rattle.model.proofs.Formed.{answering-named}
@@ -120,7 +120,7 @@ module _ (line : ℕ → ℕ) (s : Setting) where
   A e t = after (stepBy line (ruleIn s) (s .rows)) e t
 
   abbrev Both : Event → Event → List Version → Type 0
-  Both e f t = Commute (stepBy line (ruleIn s) (s .rows)) e f t
+  Both e f t = Commutes (stepBy line (ruleIn s) (s .rows)) e f t
 
   -- what is refused whatever the table holds
   abbrev barred : Event → Outcome
@@ -131,12 +131,12 @@ module _ (line : ℕ → ℕ) (s : Setting) where
   quiet e f t o p q =
       let stay : A e t ≡ t = ap (λ (x : Result). changes (x .does) t) p in
       record {
-        tables = ap (A f) stay ∙ sym (ap (λ (x : Result). changes (x .does) (A f t)) q);
+        states = ap (A f) stay ∙ sym (ap (λ (x : Result). changes (x .does) (A f t)) q);
         first = ap (λ (x : Result). x .out) q ∙ sym (ap (λ (x : Result). x .out) p);
         second = ap (λ (u : List Version). S f u .out) stay;
-        mail = λ y i k. ap₂ (λ (x : Result) (u : List Version). mailOf y i k (x .sent ++ S f u .sent)) p stay
-            ∙ ap (mailOf y i k) (sym (append-nil (S f t .sent)))
-            ∙ ap (λ (x : Result). mailOf y i k (S f t .sent ++ x .sent)) (sym q);
+        mail = λ r. ap₂ (λ (x : Result) (u : List Version). keep (reads r) (x .sent ++ S f u .sent)) p stay
+            ∙ ap (keep (reads r)) (sym (append-nil (S f t .sent)))
+            ∙ ap (λ (x : Result). keep (reads r) (S f t .sent ++ x .sent)) (sym q);
       }
 
   -- both are heard: the first puts x (or y), the second z over it
@@ -145,13 +145,15 @@ module _ (line : ℕ → ℕ) (s : Setting) where
       → S f (A e t) ≡ accept (b ++ m) (put z ∷ cs) → S e (A f t) ≡ accept (a ++ m) (put z ∷ cs) → x .id ≡ z .id → y .id ≡ z .id
       → ((w : Bool) (i n : ℕ) → mailOf w i n a ++ mailOf w i n b ≡ mailOf w i n b ++ mailOf w i n a) → Both e f t
   both e f t a b m x y z cs p q p′ q′ hx hy sw = record {
-    tables = ap₂ (λ (u w : Result). changes (w .does) (changes (u .does) t)) p p′ ∙ ap (changes cs) (put-cover z x t hx ∙ sym (put-cover z y t hy))
+    states = ap₂ (λ (u w : Result). changes (w .does) (changes (u .does) t)) p p′
+        ∙ ap (changes cs) (put-cover z x t hx ∙ sym (put-cover z y t hy))
         ∙ sym (ap₂ (λ (u w : Result). changes (w .does) (changes (u .does) t)) q q′);
     first = ap (λ (u : Result). u .out) q′ ∙ sym (ap (λ (u : Result). u .out) p);
     second = ap (λ (u : Result). u .out) p′ ∙ sym (ap (λ (u : Result). u .out) q);
-    mail = λ w i n. ap₂ (λ (u v : Result). mailOf w i n (u .sent ++ v .sent)) p p′ ∙ parts w i n a b
-        ∙ ap (λ (l : List Message). l ++ mailOf w i n m) (sw w i n) ∙ sym (parts w i n b a)
-        ∙ sym (ap₂ (λ (u v : Result). mailOf w i n (u .sent ++ v .sent)) q q′);
+    mail = λ r. ap₂ (λ (u v : Result). keep (reads r) (u .sent ++ v .sent)) p p′ ∙ parts (r .local) (r .provider) (r .number) a b
+        ∙ ap (λ (l : List Message). l ++ keep (reads r) m) (sw (r .local) (r .provider) (r .number))
+        ∙ sym (parts (r .local) (r .provider) (r .number) b a)
+        ∙ sym (ap₂ (λ (u v : Result). keep (reads r) (u .sent ++ v .sent)) q q′);
   }
     where
       parts : (w : Bool) (i n : ℕ) (a b : List Message) → mailOf w i n (a ++ (b ++ m)) ≡ mailOf w i n a ++ mailOf w i n b ++ mailOf w i n m
@@ -335,7 +337,7 @@ module _ (line : ℕ → ℕ) (s : Setting) where
       where
         at : (v : Version) → find k R ≡ some v → (a : Bool) → isDone (unheard e v) ≡ a → (b : Bool) → isDone (unheard f v) ≡ b → Both e f t
         at v h false p b q = deaf e f v ye yf d h p
-        at v h true p false q = turned (stepBy line (ruleIn s) (s .rows)) (deaf f e v yf ye (λ x. d (sym x)) h q)
+        at v h true p false q = turned (stepping (stepBy line (ruleIn s) (s .rows))) reads (deaf f e v yf ye (λ x. d (sym x)) h q)
         at v h true p true q = both-heard v h e f ye yf d p q
 
         go : (o : Option Version) → find k R ≡ o → Both e f t
@@ -356,7 +358,8 @@ module _ (line : ℕ → ℕ) (s : Setting) where
         go : (a : Bool) → isDone (barred e) ≡ a → (b : Bool) → isDone (barred f) ≡ b → Both e f t
         go false p b q = quiet e f t (barred e) (if-barred e ae k ne l oe t p) (if-barred e ae k ne l oe (A f t) p)
         go true p false q =
-            turned (stepBy line (ruleIn s) (s .rows)) (quiet f e t (barred f) (if-barred f af k nf l of t q) (if-barred f af k nf l of (A e t) q))
+            turned (stepping (stepBy line (ruleIn s) (s .rows))) reads
+            (quiet f e t (barred f) (if-barred f af k nf l of t q) (if-barred f af k nf l of (A e t) q))
         go true p true q =
             by-found e f
             (record { isA = ae; name = ne; own = oe; free = p; system = answering-named e (formed-of e p) ae .0 })
