@@ -9,6 +9,7 @@ use native.Mathlib.Omega.{arith}
 use borrow.Author.Tests.{eqb-true, ltb-true, not-false}
 use Rattle.systems.specs.Set.{member}
 use Rattle.systems.specs.Laws.{without-other}
+use Rattle.model.specs.Versions.{recast}
 use Rattle.model.specs.Retries.{used}
 use Rattle.model.specs.Closing.{open?, closed, settled}
 use Rattle.model.specs.Answers.{answering, awaited, again, succeeds, moves, moved, heard, askedAgain}
@@ -108,17 +109,8 @@ module _ (most : ℕ) (small : most ≤ 7) where
   pub heard-comm : (e f : Event) (v : Version) → 1 ≤ answering e → 1 ≤ answering f → (answering e ≡ answering f → ⊥)
       → heard most f (heard most e v) ≡ heard most e (heard most f v)
   unfolding heard
-  heard-comm e f v le lf n = λ i. record {
-    id = v .id;
-    status = v .status;
-    stamp = stamps (v .stamp) (e .time) (f .time) i;
-    live = v .live;
-    new = v .new;
-    old = v .old;
-    canceller = v .canceller;
-    window = v .window;
-    cast = moved-comm e f (v .cast) le lf n i;
-  }
+  heard-comm e f v le lf n =
+      λ i. recast v (v .status) (stamps (v .stamp) (e .time) (f .time) i) (v .live) (v .new) (moved-comm e f (v .cast) le lf n i)
     where
       stamps : (a b c : ℕ) → max (max a b) c ≡ max (max a c) b
       stamps a b c = omega arith

@@ -16,12 +16,13 @@ use Rattle.model.specs.Selection.{selectedFor}
 use Rattle.model.specs.Given.{Given, refuse, accept, nameIn, rest}
 use Rattle.model.specs.Tray.{toSoas, message, sidesTold, members, downloads, downloadTo, restatedTold, toldAtClose}
 use Rattle.model.specs.Creates.{creates, freshVersion, concurred}
-use Rattle.model.specs.Changes.{modifies, modified, newModified, oldModified, turns, cancelled, acknowledged, resolved, windowMarked, windowMarks, windowTurned}
+use Rattle.model.specs.Changes.{modifies, modified, newModified, oldModified, turns, cancelled, acknowledged, resolved, windowMarked}
+use Rattle.model.specs.Changes.{windowMarks, windowTurned}
 use Rattle.model.specs.Closing.{open?, closed, retired, retiring, retires, takesOver, closingTold, settled, settles, settlingTold}
 use Rattle.model.specs.Broadcast.{opened, broadcasts}
 use Rattle.model.specs.Answers.{answers, heard, askedAgain, again}
 use Rattle.model.specs.Step.{manages, accepted, judged, rule, Setting}
-use Rattle.model.proofs.Lists.{all-cond, all-append, all-map, all-any, all-keep, all-first}
+use Rattle.model.proofs.Lists.{either, all-cond, all-append, all-map, all-any, all-keep, all-first}
 use Rattle.model.proofs.Ways.{by-test, by-way, by-worked, by-kind, by-order}
 use Rattle.model.proofs.TableLaws.{find-name}
 use Rattle.model.proofs.Apart.{Rule, Near, About, Rows, Fine, Local}
@@ -52,10 +53,6 @@ module _ (lineOf : ℕ → ℕ) (l : ℕ) where
   abbrev Mail : List Message → Type 0
   Mail ms = About lineOf l ms
 
-  in-cond : (b : Bool) (v w : Version) → In v → In w → In (cond b v w)
-  in-cond true v w h k = h
-  in-cond false v w h k = k
-
   fine-put : {w : Version} {ms : List Message} → In w → Mail ms → Fine lineOf l (accept ms (put w ∷ []))
   fine-put h k = record { near = with h none; about = k; grows = omega arith }
 
@@ -83,7 +80,7 @@ module _ (lineOf : ℕ → ℕ) (l : ℕ) where
 
   in-settled : (v : Version) → In v → In (settled v)
   unfolding settled closed
-  in-settled v h = in-cond (open? v) v (closed v) h h
+  in-settled v h = either In (open? v) h h
 
   near-settles : (v : Version) (others : List Version) → Rows lineOf l others → Near lineOf l (settles v others)
   unfolding settles retires retired
@@ -133,12 +130,12 @@ module _ (lineOf : ℕ → ℕ) (e : Event) where
   fine-modifies : (v : Version) → Own v → Fine lineOf L (modifies e v)
   unfolding newModified oldModified
   fine-modifies v h =
-      let own : Own (modified e v) = in-cond lineOf L (eqb (e .kind) 3) (newModified e v) (oldModified e v) h h in
+      let own : Own (modified e v) = either Own (eqb (e .kind) 3) h h in
       fine-put lineOf L own (mail-restated lineOf L v (modified e v) own)
 
   fine-cancelled : (v : Version) → Own v → Fine lineOf L (turns (cancelled e v))
   unfolding cancelled
-  fine-cancelled v h = fine-turns lineOf L (cancelled e v) (in-cond lineOf L (v .new .created && v .old .created) _ _ h h)
+  fine-cancelled v h = fine-turns lineOf L (cancelled e v) (either Own (v .new .created && v .old .created) h h)
 
   fine-acknowledged : (v : Version) → Own v → Fine lineOf L (turns (acknowledged e v))
   unfolding acknowledged
@@ -154,7 +151,7 @@ module _ (lineOf : ℕ → ℕ) (e : Event) where
 
   fine-turned : (v : Version) → Own v → Fine lineOf L (turns (windowTurned e v))
   unfolding windowTurned
-  fine-turned v h = fine-turns lineOf L (windowTurned e v) (in-cond lineOf L (eqb (v .status) 2) _ _ h h)
+  fine-turned v h = fine-turns lineOf L (windowTurned e v) (either Own (eqb (v .status) 2) h h)
 
   fine-broadcasts : (bk : Books) (v : Version) (others : List Version) → Own v → Rows lineOf L others → Fine lineOf L (broadcasts bk e v others)
   unfolding broadcasts opened

@@ -12,7 +12,8 @@ use Rattle.model.specs.Basics.{all, first, All, none, with}
 use Rattle.model.specs.Outcomes.{numberOf, isDone, judge}
 use Rattle.model.proofs.Lists.{clash, and-l, and-r, all-first}
 use Rattle.model.specs.declared.Outcome.{Outcome}
-use Rattle.model.specs.declared.Outcome.the-variants.{Done, Unsound, Malformed, Absent, Unlisted, Unknown, Standless, Misplaced, Early, Unfit, Busy, Unawaited, NotCurrent, Full, Exhausted}
+use Rattle.model.specs.declared.Outcome.the-variants.{Done, Unsound, Malformed, Absent, Unlisted, Unknown, Standless, Misplaced}
+use Rattle.model.specs.declared.Outcome.the-variants.{Early, Unfit, Busy, Unawaited, NotCurrent, Full, Exhausted}
 
 -- ---- by number
 

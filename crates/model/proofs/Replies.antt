@@ -19,12 +19,13 @@ use Rattle.model.specs.Answers.{answering, awaited, again, heard, askedA
 use Rattle.model.specs.Refusals.{absent, early, unawaited, beforeStart}
 use Rattle.model.specs.Step.{Setting, accepted, rule, after}
 use Rattle.model.specs.Exchange.{mailOf}
-use Rattle.model.proofs.Lists.{keep-append, all-keep, passed, clash}
+use Rattle.model.proofs.Lists.{either, keep-append, all-keep, passed, clash}
 use Rattle.model.proofs.Order.{order-self}
 use Rattle.model.proofs.TableLaws.{put-cover, find-name, find-put, find-other, part-out}
 use Rattle.model.proofs.Exchanges.{Commutes, turned, stepping, reads}
 use Rattle.model.proofs.Apart.{Near, stepBy, rows-in, fine}
 use Rattle.model.proofs.Locality.{ruleIn, local}
+use Rattle.model.proofs.Stays.{heard-stays}
 use Rattle.model.proofs.Formed.{answering-named}
 use Rattle.model.proofs.Arrivals.{unheard, heard-comm, unheard-other, unheard-settled, asked-other, open-waits}
 use Rattle.model.specs.declared.Id.{Id}
@@ -61,15 +62,10 @@ find-settles k w r t = go (open? w) (takesOver w)
 
 pub settled-id : (w : Version) → settled w .id ≡ w .id
 unfolding settled closed
-settled-id w = go (open? w)
-  where
-    go : (b : Bool) → (cond b w (closed w)) .id ≡ w .id
-    go true = refl
-    go false = refl
+settled-id w = either (λ (x : Version). x .id ≡ w .id) (open? w) refl refl
 
 pub heard-id : (most : ℕ) (g : Event) (v : Version) → heard most g v .id ≡ v .id
-unfolding heard
-heard-id most g v = refl
+heard-id most g v = heard-stays most g v .name
 
 -- an answer for the version is heard
 abbrev Hears : Event → Version → Type 0

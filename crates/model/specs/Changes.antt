@@ -5,6 +5,7 @@ use mathlib.Core.Bool.{Bool, true, cond, _&&_, _||_}
 use mathlib.Core.List.{[], _∷_}
 use lib.Dec.{eqb}
 use Rattle.model.specs.Table.{put}
+use Rattle.model.specs.Versions.{restated, rerouted, reauthorized}
 use Rattle.model.specs.Sound.{pending, conflict, cancelPending, canceled, yes, no}
 use Rattle.model.specs.Standing.{standingOf}
 use Rattle.model.specs.Given.{Result, accept}
@@ -16,31 +17,13 @@ use Rattle.model.specs.declared.Version.{Version}
 
 -- 3 replaces LRN and due. [M1]
 unfoldable pub newModified : Event → Version → Version
-newModified e v = record {
-  id = v .id;
-  status = v .status;
-  stamp = e .time;
-  live = v .live;
-  new = record { provider = v .new .provider; created = v .new .created; lrn = e .lrn; due = e .due };
-  old = v .old;
-  canceller = v .canceller;
-  window = v .window;
-  cast = v .cast;
-}
+newModified e v = restated v (v .status) (e .time) (rerouted (v .new) (e .lrn) (e .due)) (v .old) (v .canceller) (v .window)
 
 -- 4 replaces its three values; "no" makes conflict, "yes" pending. [M2]
 unfoldable pub oldModified : Event → Version → Version
-oldModified e v = record {
-  id = v .id;
-  status = cond (eqb (e .mark) no) conflict pending;
-  stamp = e .time;
-  live = v .live;
-  new = v .new;
-  old = record { provider = v .old .provider; created = v .old .created; authorization = e .mark; cause = e .cause; due = e .due };
-  canceller = v .canceller;
-  window = v .window;
-  cast = v .cast;
-}
+oldModified e v =
+    restated v (cond (eqb (e .mark) no) conflict pending) (e .time) (v .new) (reauthorized (v .old) (e .mark) (e .cause) (e .due))
+    (v .canceller) (v .window)
 
 abbrev pub modified : Event → Version → Version
 modified e v = cond (eqb (e .kind) 3) (newModified e v) (oldModified e v)
@@ -51,17 +34,7 @@ modifies e v = accept (restatedTold v (modified e v)) (put (modified e v) ∷ []
 -- ---- another status, with its canceller and window marks
 
 abbrev pub turned : Event → Version → ℕ → ℕ → Bool → Version
-turned e v status canceller window = record {
-  id = v .id;
-  status = status;
-  stamp = e .time;
-  live = v .live;
-  new = v .new;
-  old = v .old;
-  canceller = canceller;
-  window = window;
-  cast = v .cast;
-}
+turned e v status canceller window = restated v status (e .time) (v .new) (v .old) canceller window
 
 abbrev pub turns : Version → Result
 turns w = accept (statusTold w) (put w ∷ [])
@@ -82,17 +55,7 @@ ownCancel e v = eqb (v .canceller) (suc (standingOf e v))
 
 -- Resolve: pending, authorization yes, cause 0. [K3]
 unfoldable pub resolved : Event → Version → Version
-resolved e v = record {
-  id = v .id;
-  status = pending;
-  stamp = e .time;
-  live = v .live;
-  new = v .new;
-  old = record { provider = v .old .provider; created = v .old .created; authorization = yes; cause = 0; due = v .old .due };
-  canceller = v .canceller;
-  window = v .window;
-  cast = v .cast;
-}
+resolved e v = restated v pending (e .time) (v .new) (reauthorized (v .old) yes 0 (v .old .due)) (v .canceller) (v .window)
 
 -- ---- window
 
