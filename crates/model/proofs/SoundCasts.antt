@@ -139,15 +139,16 @@ close-kept s a b act m f k = go (eqb s 4) refl (eqb s 5) refl (eqb s 6) refl
     go false p false q false r = clash (rw (p, q, r) at m)
 
 at-close : (a b act dis : Bool) → AtClose (closeBy a b act dis) a b act
-at-close true b act true = close-old true b act
-at-close true true true false = close-kept active true true true refl refl refl
-at-close true true false false = close-kept active true true false refl refl refl
-at-close true false true false = close-kept active true false true refl refl refl
-at-close true false false false = close-kept active true false false refl refl refl
+at-close true true true dis = close-kept active true true true refl refl refl
+at-close true false true dis = close-kept active true false true refl refl refl
 at-close false true true dis = close-kept failure false true true refl refl refl
-at-close false true false dis = close-kept active false true false refl refl refl
 at-close false false true dis = close-kept partialFailure false false true refl refl refl
+at-close true b false true = close-old true b false
+at-close false true false true = close-kept active false true false refl refl refl
 at-close false false false true = close-old false false false
+at-close true true false false = close-kept active true true false refl refl refl
+at-close true false false false = close-kept active true false false refl refl refl
+at-close false true false false = close-kept active false true false refl refl refl
 at-close false false false false = close-kept active false false false refl refl refl
 
 pub at-closed : (c : Broadcast) → AtClose (closeTo c) (eqb (c .failed) 0) (eqb (c .confirmed) 0) (eqb (c .purpose) activate)

@@ -18,13 +18,15 @@ use Rattle.model.specs.declared.Message.{Message}
 abbrev pub open? : Version → Bool
 open? v = not (eqb (v .cast .waiting) 0)
 
--- For failed empty, both non-empty, only confirmed empty: activate gives active, partial-failure, failed; modify always active; disconnect old,
--- old, active. [W3]
+-- one of three: for failed empty, for both non-empty, for only confirmed empty [W3]
+abbrev pub ofThree : Bool → Bool → ℕ → ℕ → ℕ → ℕ
+ofThree noneFailed noneConfirmed confirmed both failed = cond noneFailed confirmed (cond noneConfirmed failed both)
+
+-- Activate gives active, partial-failure, failed; modify always active; disconnect old, old, active. [W3]
 abbrev pub closeBy : Bool → Bool → Bool → Bool → ℕ
 closeBy noneFailed noneConfirmed act dis =
-    cond noneFailed (cond dis old active)
-    (cond noneConfirmed (cond act failure active)
-    (cond act partialFailure (cond dis old active)))
+    cond act (ofThree noneFailed noneConfirmed active partialFailure failure)
+    (cond dis (ofThree noneFailed noneConfirmed old old active) active)
 
 unfoldable pub closeTo : Broadcast → ℕ
 closeTo c = closeBy (eqb (c .failed) 0) (eqb (c .confirmed) 0) (eqb (c .purpose) activate) (eqb (c .purpose) disconnect)
