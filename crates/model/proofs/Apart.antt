@@ -10,12 +10,12 @@ use lib.ListN.{length}
 use native.Mathlib.Omega.{arith}
 use borrow.Author.Tests.{eqb-true, eqb-false, eq-eqb, ne-eqb, lt-ltb}
 use Rattle.model.specs.Basics.{All, none, with, iff, keep}
-use Rattle.model.specs.Table.{Change, nameOf, change, changes, adds, Rising, inLine, rowsOf}
+use Rattle.model.specs.Table.{Change, nameOf, change, changes, inLine, rowsOf}
 use Rattle.model.specs.Given.{Result}
 use Rattle.model.specs.Step.{Step, after}
 use Rattle.model.specs.Exchange.{isFor, mailOf}
 use Rattle.model.proofs.Lists.{keep-append, keep-none}
-use Rattle.model.proofs.TableLaws.{rising-change, change-comm, length-changes, part-out, part-in}
+use Rattle.model.proofs.TableLaws.{adds, Rising, rising-change, change-comm, length-changes, part-out, part-in}
 use Rattle.model.proofs.Exchanges.{Commutes, reads}
 use Rattle.model.specs.declared.Id.{Id}
 use Rattle.model.specs.declared.Version.{Version}

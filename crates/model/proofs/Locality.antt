@@ -9,7 +9,7 @@ use lib.Dec.{eqb}
 use native.Mathlib.Omega.{arith}
 use Rattle.model.specs.Basics.{keep, none, with}
 use Rattle.model.specs.Books.{Books, lineOf}
-use Rattle.model.specs.Table.{put, add, strike, find, others, notNamed, adds}
+use Rattle.model.specs.Table.{put, add, strike, find, others, notNamed}
 use Rattle.model.specs.Sound.{live, worked}
 use Rattle.model.specs.Record.{wellFormed}
 use Rattle.model.specs.Selection.{selectedFor}
@@ -24,7 +24,7 @@ use Rattle.model.specs.Answers.{answers, heard, askedAgain, again}
 use Rattle.model.specs.Step.{manages, accepted, judged, rule, Setting}
 use Rattle.model.proofs.Lists.{either, all-cond, all-append, all-map, all-any, all-keep, all-first}
 use Rattle.model.proofs.Ways.{by-test, by-way, by-worked, by-kind, by-order}
-use Rattle.model.proofs.TableLaws.{find-name}
+use Rattle.model.proofs.TableLaws.{adds, find-name}
 use Rattle.model.proofs.Apart.{Rule, Near, About, Rows, Fine, Local}
 use Rattle.model.specs.declared.Id.{Id}
 use Rattle.model.specs.declared.Lrn.{Lrn}

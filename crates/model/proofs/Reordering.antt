@@ -10,13 +10,12 @@ use native.Mathlib.Omega.{arith}
 use borrow.Author.Tests.{leb-true, not-false}
 use Rattle.model.specs.Basics.{none, with}
 use Rattle.model.specs.Books.{soundBooks, soundRetries}
-use Rattle.model.specs.Table.{Rising}
 use Rattle.model.specs.Sound.{soundTable}
 use Rattle.model.specs.Given.{nameIn}
 use Rattle.model.specs.Step.{Setting, Step, line, unsound, PLACES, step, stepOf, after, final, outcomes, messages}
 use Rattle.model.specs.Exchange.{Answers, Exchangeable, lines, answers, May, Same, reorder, mailOf, Demand3}
 use Rattle.model.proofs.Lists.{conj-at, conj-all}
-use Rattle.model.proofs.TableLaws.{rising-changes}
+use Rattle.model.proofs.TableLaws.{Rising, rising-changes}
 use Rattle.model.proofs.Exchanges.{Commutes, stepping, reads, same-events, all}
 use Rattle.model.proofs.Apart.{stepBy, grown, apart}
 use Rattle.model.proofs.Locality.{ruleIn, local}

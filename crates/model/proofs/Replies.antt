@@ -8,7 +8,7 @@ use mathlib.Core.List.{List, [], _∷_, _++_, map, append-nil, append-assoc}
 use lib.Dec.{eqb}
 use borrow.Author.Tests.{eqb-true, eqb-false, ne-eqb}
 use Rattle.model.specs.Basics.{keep, All, none, with}
-use Rattle.model.specs.Table.{Change, put, change, changes, find, notNamed, others, rowsOf, Rising}
+use Rattle.model.specs.Table.{Change, put, change, changes, find, notNamed, others, rowsOf}
 use Rattle.model.specs.Sound.{live}
 use Rattle.model.specs.Record.{isCreate, isAnswer, wellFormed}
 use Rattle.model.specs.Outcomes.{isDone}
@@ -21,7 +21,7 @@ use Rattle.model.specs.Step.{Setting, accepted, rule, after}
 use Rattle.model.specs.Exchange.{mailOf}
 use Rattle.model.proofs.Lists.{either, keep-append, all-keep, passed, clash}
 use Rattle.model.proofs.Order.{order-self}
-use Rattle.model.proofs.TableLaws.{put-cover, find-name, find-put, find-other, part-out}
+use Rattle.model.proofs.TableLaws.{Rising, put-cover, find-name, find-put, find-other, part-out}
 use Rattle.model.proofs.Exchanges.{Commutes, turned, stepping, reads}
 use Rattle.model.proofs.Apart.{Near, stepBy, rows-in, fine}
 use Rattle.model.proofs.Locality.{ruleIn, local}

@@ -10,7 +10,7 @@ use native.Mathlib.Omega.{arith}
 use Rattle.model.specs.Basics.{among, any, isNone, none, with}
 use Rattle.model.specs.Numbers.{isSet, codeOf}
 use Rattle.model.specs.Books.{Books}
-use Rattle.model.specs.Table.{put, add, change, find, others, Rising}
+use Rattle.model.specs.Table.{put, add, change, find, others}
 use Rattle.model.specs.Sound.{pending, conflict, cancelPending, no, isSending, isWorked, activate, count, live, sends, worked}
 use Rattle.model.specs.Record.{isCreate, isModify, isAnswer, isBroadcast, wellFormed}
 use Rattle.model.specs.Selection.{selectedFor, selects}
@@ -24,7 +24,7 @@ use Rattle.model.specs.Refusals.{busyWith}
 use Rattle.model.specs.Step.{purges, manages}
 use Rattle.model.proofs.Lists.{clash, either, or-off, all-first, first-true, or-but, back-equal}
 use Rattle.model.proofs.Ways.{by-way, by-worked}
-use Rattle.model.proofs.TableLaws.{find-name}
+use Rattle.model.proofs.TableLaws.{Rising, find-name}
 use Rattle.model.proofs.Formed.{Fields, fields, answering-named}
 use Rattle.model.proofs.Stays.{Stays, concurred-stays, new-modified-stays, old-modified-stays, cancelled-stays, acknowledged-stays}
 use Rattle.model.proofs.Stays.{resolved-stays, window-marked-stays, window-turned-stays, opened-stays, heard-stays}

@@ -10,14 +10,14 @@ use lib.ListN.{length}
 use native.Mathlib.Omega.{arith}
 use borrow.Author.Tests.{eqb-true, eqb-false}
 use Rattle.model.specs.Basics.{keep, All, none, with}
-use Rattle.model.specs.Table.{order, Change, put, add, strike, nameOf, miss, hit, change, changes, find, notNamed, others, rowsOf, Rising}
+use Rattle.model.specs.Table.{order, Change, put, add, strike, nameOf, miss, hit, change, changes, find, notNamed, others, rowsOf}
 use Rattle.model.specs.Sound.{live, sends, count}
 use Rattle.model.specs.Given.{Result, refuse, accept}
 use Rattle.model.specs.Closing.{open?, closed, retired, retiring, retires, takesOver, settled, settles}
 use Rattle.model.specs.Sound.{activate}
 use Rattle.model.specs.Step.{after}
 use Rattle.model.proofs.Lists.{all-keep, all-map, all-both, all-cond, passed}
-use Rattle.model.proofs.TableLaws.{rising-changes, rising-part}
+use Rattle.model.proofs.TableLaws.{Rising, rising-changes, rising-part}
 use Rattle.model.proofs.Apart.{Rule, stepBy, Rows, Local, rows-rows, rows-out, rows-in, fine}
 use Rattle.model.proofs.SoundRows.{Row}
 use Rattle.model.proofs.SoundCasts.{Casting, row-open, row-closed, row-retired, at-closed}

@@ -11,7 +11,7 @@ use native.Mathlib.Omega.{arith}
 use borrow.Author.Tests.{leb-true, le-leb, ltb-true, not-false}
 use Rattle.model.specs.Basics.{all, All, none, with}
 use Rattle.model.specs.Books.{soundRetries}
-use Rattle.model.specs.Table.{order, sel, Change, Under, Rising, rowsOf, changes, adds}
+use Rattle.model.specs.Table.{order, sel, Change, rowsOf, changes}
 use Rattle.model.specs.Sound.{soundVersion, oneEach, above, rising, soundLines, soundTable, count, live, sends, worked}
 use Rattle.model.specs.Record.{isCreate, wellFormed}
 use Rattle.model.specs.Outcomes.{isDone, createOrder}
@@ -22,7 +22,7 @@ use Rattle.model.specs.Answers.{answers, heard}
 use Rattle.model.specs.Refusals.{full, refuses}
 use Rattle.model.specs.Step.{manages, accepted, judged, Setting, after}
 use Rattle.model.proofs.Lists.{clash, conj-at, conj-all, all-true, true-all, all-keep, all-both, head-of}
-use Rattle.model.proofs.TableLaws.{length-changes}
+use Rattle.model.proofs.TableLaws.{Under, Rising, adds, length-changes}
 use Rattle.model.proofs.Apart.{stepBy, rows-rows}
 use Rattle.model.proofs.Locality.{ruleIn, local, adds-settles}
 use Rattle.model.proofs.SoundRows.{Row, row-of, of-row}

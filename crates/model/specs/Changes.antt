@@ -1,13 +1,13 @@
 -- Modifies, cancel, resolve and window: what they make of a version. Each sets the stamp to the event's time. [R3]
 -- Assumes nothing.
-use Prim.Native.Nat.{ℕ, suc}
+use Prim.Native.Nat.{ℕ}
 use mathlib.Core.Bool.{Bool, true, cond, _&&_, _||_}
 use mathlib.Core.List.{[], _∷_}
 use lib.Dec.{eqb}
 use Rattle.model.specs.Table.{put}
 use Rattle.model.specs.Versions.{restated, rerouted, reauthorized}
 use Rattle.model.specs.Sound.{pending, conflict, cancelPending, canceled, yes, no}
-use Rattle.model.specs.Standing.{standingOf}
+use Rattle.model.specs.Standing.{asNew, standingOf, nobody, cancellerAs}
 use Rattle.model.specs.Given.{Result, accept}
 use Rattle.model.specs.Tray.{statusTold, restatedTold, windowTold}
 use Rattle.model.specs.declared.Event.{Event}
@@ -42,16 +42,16 @@ turns w = accept (statusTold w) (put w ∷ [])
 -- One side created: canceled. Both: cancel-pending, canceller marked. [K1]
 unfoldable pub cancelled : Event → Version → Version
 cancelled e v =
-    cond (v .new .created && v .old .created) (turned e v cancelPending (suc (standingOf e v)) (v .window))
+    cond (v .new .created && v .old .created) (turned e v cancelPending (cancellerAs (standingOf e v)) (v .window))
     (turned e v canceled (v .canceller) (v .window))
 
 -- 7 by the other side: canceled. [K2]
 unfoldable pub acknowledged : Event → Version → Version
-acknowledged e v = turned e v canceled 0 (v .window)
+acknowledged e v = turned e v canceled nobody (v .window)
 
 -- 7 by the canceller: 11. [K2]
 unfoldable pub ownCancel : Event → Version → Bool
-ownCancel e v = eqb (v .canceller) (suc (standingOf e v))
+ownCancel e v = eqb (v .canceller) (cancellerAs (standingOf e v))
 
 -- Resolve: pending, authorization yes, cause 0. [K3]
 unfoldable pub resolved : Event → Version → Version
@@ -62,7 +62,7 @@ resolved e v = restated v pending (e .time) (v .new) (reauthorized (v .old) yes 
 -- Pending, new side absent: canceled. [K4] Cancel-pending: canceled if the new side cancelled; otherwise conflict. [K5]
 unfoldable pub windowTurned : Event → Version → Version
 windowTurned e v =
-    cond (eqb (v .status) cancelPending) (turned e v (cond (eqb (v .canceller) 1) canceled conflict) 0 (v .window))
+    cond (eqb (v .status) cancelPending) (turned e v (cond (eqb (v .canceller) (cancellerAs asNew)) canceled conflict) nobody (v .window))
     (turned e v canceled (v .canceller) (v .window))
 
 -- old side absent and unmarked: marked [K4]

@@ -11,6 +11,7 @@ use Rattle.model.specs.Table.{put, add}
 use Rattle.model.specs.Versions.{restated}
 use Rattle.model.specs.Retries.{noRetries}
 use Rattle.model.specs.Sound.{pending, conflict, cancelPending, no}
+use Rattle.model.specs.Standing.{nobody}
 use Rattle.model.specs.Given.{Result, accept, newest, liveOne, workedOne}
 use Rattle.model.specs.Tray.{noLrn, createdTold, restatedTold}
 use Rattle.model.specs.declared.NewSide.{NewSide}
@@ -76,7 +77,7 @@ freshNumbered e n = record {
   live = false;
   new = newJoined e (newAbsent (newIn e));
   old = oldJoined e (oldAbsent (oldIn e));
-  canceller = 0;
+  canceller = nobody;
   window = false;
   cast = noBroadcast;
 }

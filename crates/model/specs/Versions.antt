@@ -8,6 +8,7 @@ use Rattle.model.specs.declared.OldSide.{OldSide}
 use Rattle.model.specs.declared.Broadcast.{Broadcast}
 use Rattle.model.specs.declared.Version.{Version}
 
+-- all that any rule sets
 abbrev pub changed : Version → ℕ → ℕ → Bool → NewSide → OldSide → ℕ → Bool → Broadcast → Version
 changed v status stamp live new old canceller window cast =
     record {
