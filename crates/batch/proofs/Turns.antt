@@ -9,8 +9,7 @@ use lib.Seq.{take-all, drop-length}
 use borrow.Rule.Slice.PartMut.{putMid, postOf, post-is}
 use Rattle.model.specs.Outcomes.{numberOf}
 use Rattle.model.specs.Given.{Result}
-use Rattle.model.specs.declared.Outcome.{Outcome}
-use Rattle.model.specs.declared.Outcome.the-variants as outcome
+use Rattle.model.proofs.Outcomes.{number-small}
 use Rattle.providers.specs.declared.Listed.{Listed}
 use Rattle.rows.specs.Table.{decode}
 use Rattle.scan.specs.Sound.{SoundTable, soundnessOf, rowsIn}
@@ -32,23 +31,6 @@ pub part-put : (y z : List ℕ) (k : ℕ) → k ≤ length y → putMid k (lengt
 part-put y z k h =
     ap (λ (r : List ℕ). take k y ++ r)
     (ap (λ (r : List ℕ). z ++ r) (post-is k (length y) y h ∙ drop-length y) ∙ append-nil z)
-
-pub number-small : (o : Outcome) → numberOf o < 15
-number-small outcome.Done = omega arith
-number-small outcome.Unsound = omega arith
-number-small outcome.Malformed = omega arith
-number-small outcome.Absent = omega arith
-number-small outcome.Unlisted = omega arith
-number-small outcome.Unknown = omega arith
-number-small outcome.Standless = omega arith
-number-small outcome.Misplaced = omega arith
-number-small outcome.Early = omega arith
-number-small outcome.Unfit = omega arith
-number-small outcome.Busy = omega arith
-number-small outcome.Unawaited = omega arith
-number-small outcome.NotCurrent = omega arith
-number-small outcome.Full = omega arith
-number-small outcome.Exhausted = omega arith
 
 module _ (l : Listed) (b : List ℕ) (most : ℕ) (e t y o : List ℕ) (i m : ℕ) (u z : List ℕ) (a : Answer) where
   abbrev k : ℕ

@@ -16,16 +16,22 @@ pub fn is_open(v: Version) -> bool
 fn close_by(none_failed: bool, none_confirmed: bool, act: bool, dis: bool) -> u8
     ensures { λ r. ⌜ r ≡ closeBy «none_failed» «none_confirmed» act dis ⌝ }
 {
-    if none_failed {
-        return if dis { 7 } else { 6 };
-    }
-    if none_confirmed {
-        return if act { 4 } else { 6 };
-    }
     if act {
+        if none_failed {
+            return 6;
+        }
+        if none_confirmed {
+            return 4;
+        }
         return 5;
     }
-    if dis { 7 } else { 6 }
+    if dis {
+        if none_failed {
+            return 7;
+        }
+        return if none_confirmed { 6 } else { 7 };
+    }
+    6
 }
 
 fn close_to(c: Broadcast) -> u8

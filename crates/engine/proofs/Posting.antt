@@ -4,26 +4,25 @@ use mathlib.Core.Path.{_≡_, refl, sym, ap, _∙_, subst}
 use Prim.Native.Nat.{ℕ, zero, suc, _+_, _^_, _<_}
 use native.Mathlib.Omega.{arith}
 use mathlib.Core.Bool.{Bool, true, false, cond}
-use mathlib.Core.Option.{Option, none as nothing, some}
 use mathlib.Core.List.{List, [], _∷_, _++_, map}
 use lib.Dec.{eqb}
 use borrow.Author.Tests.{eqb-true, not-false}
 use Rattle.systems.specs.Set.{member}
-use Rattle.model.specs.Basics.{All, none, with, among}
+use Rattle.model.specs.Basics.{All, none, with}
 use Rattle.model.specs.Books.{Books}
 use Rattle.model.specs.Table.{put}
-use Rattle.model.specs.Record.{isCreate, isAnswer, isBroadcast, wellFormed}
-use Rattle.model.specs.Outcomes.{isDone, judge, orderOf}
-use Rattle.model.specs.Given.{Given, Result, accept, nameIn, found, rest, workedOne}
+use Rattle.model.specs.Record.{wellFormed}
+use Rattle.model.specs.Given.{Given, Result, accept, nameIn, rest}
 use Rattle.model.specs.Selection.{selectedFor}
-use Rattle.model.specs.Creates.{creates, createOn, freshVersion, concurred}
-use Rattle.model.specs.Changes.{modified, cancelled, acknowledged, resolved, windowTurned, windowMarked, windowRuns, marks}
+use Rattle.model.specs.Creates.{creates, freshVersion, concurred}
+use Rattle.model.specs.Changes.{modified, turns, cancelled, acknowledged, resolved, windowTurned, windowMarked, windowMarks}
 use Rattle.model.specs.Broadcast.{opened, broadcasts}
 use Rattle.model.specs.Answers.{answering, again, heard, askedAgain, answers}
 use Rattle.model.specs.Closing.{open?, closed, closingTold, settled, settlingTold}
 use Rattle.model.specs.Tray.{membersTo, members, message, noLrn, toSoas, sidesTold, restatedTold, statusTold, attributesTold, downloadTo, downloads}
-use Rattle.model.specs.Refusals.{refuses}
-use Rattle.model.specs.Step.{whenFound, manages, accepted, rule}
+use Rattle.model.specs.Step.{manages, accepted, rule}
+use Rattle.model.proofs.Lists.{head-of}
+use Rattle.model.proofs.Ways.{by-way, by-worked, by-kind, by-order}
 use Rattle.model.proofs.Formed.{answering-named}
 use Rattle.model.proofs.Effects.{no-members}
 use Rattle.model.proofs.SoundLines.{all-find}
@@ -123,55 +122,40 @@ broadcast-fits w r = all-append (go (open? w) refl) (settling-fits w r)
 
 -- ---- what is accepted, where what it brings fits its rows
 
-abbrev Mailed : Result → Type 0
-Mailed x = All (Brings Row) (x .does) → All Fits (x .sent)
-
 record Mails (x : Result) : Type 0 where
-  fit : Mailed x
+  fit : All (Brings Row) (x .does) → All Fits (x .sent)
 
-mails-cond : (b : Bool) {x y : Result} → Mails x → Mails y → Mails (cond b x y)
-mails-cond true h k = h
-mails-cond false h k = k
-
-head-of : {A : Type 0} {P : A → Type 0} {x : A} {xs : List A} → All P (x ∷ xs) → P x
-head-of (with h hs) = h
-
-creates-mail : (e : Event) (r : List Version) → Mails (creates e r)
-unfolding creates
-creates-mail e r = go (workedOne r)
-  where
-    go : (o : Option Version) → Mails (createOn e r o)
-    go nothing =
-        record { fit = λ h. sides-fit (freshVersion e r) (row-room (freshVersion e r) (head-of h)) 1 0 noLrn (omega arith) (omega arith) (omega arith) }
-    go (some v) = record { fit = λ h. restated-fit v (concurred e v) (row-room (concurred e v) (head-of h)) }
-
-turns-mail : (w : Version) → Mails (accept (statusTold w) (put w ∷ []))
+turns-mail : (w : Version) → Mails (turns w)
 turns-mail w = record { fit = λ h. sides-fit w (row-room w (head-of h)) 2 0 noLrn (omega arith) (omega arith) (omega arith) }
 
-window-mail : (e : Event) (v : Version) → Mails (windowRuns e v)
-unfolding windowRuns
-window-mail e v =
-    mails-cond (marks v)
-    (record {
-      fit = λ h.
-          let s = row-room (windowMarked e v) (head-of h) in
-          with (soa-fits (windowMarked e v) s 7 0 (windowMarked e v .old .provider) noLrn (omega arith) (omega arith) (s .small .old) (omega arith)) none;
-    })
-    (turns-mail (windowTurned e v))
+restates-mail : (v w : Version) → Mails (accept (restatedTold v w) (put w ∷ []))
+restates-mail v w = record { fit = λ h. restated-fit v w (row-room w (head-of h)) }
 
-broadcasts-mail : (bk : Books) (e : Event) (v : Version) (others : List Version) → Mails (broadcasts bk e v others)
-unfolding broadcasts
-broadcasts-mail bk e v others = record { fit = λ h. broadcast-fits (opened (selectedFor bk (v .id .tn)) e v) (head-of h) }
+marks-mail : (e : Event) (v : Version) → Mails (windowMarks e v)
+marks-mail e v = record {
+  fit = λ h.
+      let s = row-room (windowMarked e v) (head-of h) in
+      with (soa-fits (windowMarked e v) s 7 0 (windowMarked e v .old .provider) noLrn (omega arith) (omega arith) (s .small .old) (omega arith)) none;
+}
 
 manages-mail : (bk : Books) (e : Event) (v : Version) (others : List Version) → Mails (manages bk e v others)
-unfolding manages
-manages-mail bk e v others =
-    mails-cond (among (e .kind) (3 ∷ 4 ∷ [])) (record { fit = λ h. restated-fit v (modified e v) (row-room (modified e v) (head-of h)) })
-    (mails-cond (eqb (e .kind) 6) (turns-mail (cancelled e v))
-    (mails-cond (eqb (e .kind) 7) (turns-mail (acknowledged e v))
-    (mails-cond (eqb (e .kind) 8) (turns-mail (resolved e v))
-    (mails-cond (eqb (e .kind) 13) (window-mail e v)
-    (mails-cond (isBroadcast (e .kind)) (broadcasts-mail bk e v others) (record { fit = λ h. none }))))))
+unfolding broadcasts
+manages-mail bk e v others = by-way Mails bk e v others (record {
+  modify = λ _. restates-mail v (modified e v);
+  cancel = λ _. turns-mail (cancelled e v);
+  acknowledge = λ _. turns-mail (acknowledged e v);
+  resolve = λ _. turns-mail (resolved e v);
+  mark = λ _ _. marks-mail e v;
+  turn = λ _ _. turns-mail (windowTurned e v);
+  broadcast = λ _. record { fit = λ h. broadcast-fits (opened (selectedFor bk (v .id .tn)) e v) (head-of h) };
+  purge = record { fit = λ h. none };
+})
+
+creates-mail : (e : Event) (r : List Version) → Mails (creates e r)
+creates-mail e r =
+    by-worked Mails e r
+    (λ _. record { fit = λ h. sides-fit (freshVersion e r) (row-room (freshVersion e r) (head-of h)) 1 0 noLrn (omega arith) (omega arith) (omega arith) })
+    (λ v _. restates-mail v (concurred e v))
 
 answers-mail : (most : ℕ) (e : Event) (v : Version) (others : List Version) → Row v → answering e < 64 → Mails (answers most e v others)
 unfolding answers askedAgain
@@ -181,29 +165,15 @@ answers-mail most e v others r p = record { fit = λ h. all-append (go (again mo
     go true = with (download-fits v (row-room v r) (answering e) p) none
     go false = none
 
-module _ (g : Given) (rows : All Row (g .rows)) (formed : wellFormed (g .event) ≡ true) where
-  answer-mail : isAnswer (g .event .kind) ≡ true → Mails (whenFound (found g) (λ (v : Version). answers (g .most) (g .event) v (rest g)))
-  answer-mail a = go (found g) refl
-    where
-      go : (o : Option Version) → found g ≡ o → Mails (whenFound o (λ (v : Version). answers (g .most) (g .event) v (rest g)))
-      go nothing q = record { fit = λ h. none }
-      go (some v) q =
-          answers-mail (g .most) (g .event) v (rest g) (all-find (nameIn (g .event)) v rows q) (answering-named (g .event) formed a .1)
-
-  other-mail : (o : Option Version) → Mails (whenFound o (λ (v : Version). manages (g .books) (g .event) v (rest g)))
-  other-mail nothing = record { fit = λ h. none }
-  other-mail (some v) = manages-mail (g .books) (g .event) v (rest g)
-
-  accepted-mail : Mails (accepted g)
-  unfolding accepted
-  accepted-mail = mails-cond (isCreate (g .event .kind)) (creates-mail (g .event) (g .rows)) (go (isAnswer (g .event .kind)) refl)
-    where
-      go : (b : Bool) → isAnswer (g .event .kind) ≡ b
-          → Mails (cond b (whenFound (found g) (λ (v : Version). answers (g .most) (g .event) v (rest g))) (whenFound (found g) (λ (v : Version). manages (g .books) (g .event) v (rest g))))
-      go true a = answer-mail a
-      go false a = other-mail (found g)
-
-  -- Where the changes of the rules fit their rows, their messages fit their places.
-  pub rule-mail : All (Brings Row) (rule g .does) → All Fits (rule g .sent)
-  unfolding rule
-  rule-mail = mails-cond (isDone (judge (refuses g) (orderOf (g .event .kind)))) accepted-mail (record { fit = λ h. none }) .fit
+-- Where the changes of the rules fit their rows, their messages fit their places.
+pub rule-mail : (g : Given) → All Row (g .rows) → wellFormed (g .event) ≡ true → All (Brings Row) (rule g .does) → All Fits (rule g .sent)
+rule-mail g rows formed = by-order Mails g (λ _. accepted-mail) (λ _. record { fit = λ h. none }) .fit
+  where
+    accepted-mail : Mails (accepted g)
+    accepted-mail = by-kind Mails g (record {
+      create = λ _. creates-mail (g .event) (g .rows);
+      answer = λ _ a v q.
+          answers-mail (g .most) (g .event) v (rest g) (all-find (nameIn (g .event)) v rows q) (answering-named (g .event) formed a .1);
+      manage = λ _ _ v _. manages-mail (g .books) (g .event) v (rest g);
+      unknown = record { fit = λ h. none };
+    })

@@ -19,7 +19,7 @@ use Rattle.outcomes.specs.declared.Answer.{Answer}
 use Rattle.engine.specs.Event.{Did, tableAfter}
 use Rattle.engine.specs.Step.{resultIn, resultOf}
 use Rattle.engine.specs.Demands.{isRecord, ByteDemand3}
-use Rattle.judge.proofs.Judging.{zero-done, other-refused}
+use Rattle.model.proofs.Outcomes.{zero-done, other-refused}
 use Rattle.engine.proofs.Keeping.{refused-silent, result-few, usedAfter, done-scanned}
 use Rattle.engine.proofs.Exactly.{lentSound, one-lent, lent-one, two-lent, lent-two}
 use Rattle.engine.proofs.Mail.{sent-fits}

@@ -10,14 +10,13 @@ use Rattle.model.specs.Record.{isBroadcast}
 use Rattle.model.specs.Sound.{failure}
 use Rattle.model.specs.Standing.{lacksStanding, wrongStatus}
 use Rattle.model.specs.Creates.{oldIn, currentOr, fits}
-use Rattle.model.specs.Outcomes.{numberOf, createOrder, answerOrder, otherOrder}
+use Rattle.model.specs.Outcomes.{numberOf, judge, createOrder, answerOrder, otherOrder}
 use Rattle.model.specs.Answers.{awaited}
 use Rattle.model.specs.Refusals.{missing, absent, beforeStart, beforeDue, idle}
 use Rattle.model.specs.declared.Event.{Event}
 use Rattle.model.specs.declared.Version.{Version}
 use Rattle.model.specs.declared.Marks.{Marks}
 use Rattle.model.specs.declared.Outcome.{Outcome}
-use Rattle.model.specs.declared.Outcome.the-variants.{Done}
 use Rattle.books.specs.Packed.{decodeBooks}
 use Rattle.table.specs.declared.survey.Facts.{Facts}
 use Rattle.table.specs.Survey.{theOne}
@@ -29,17 +28,15 @@ missingIn m p = missing (decodeBooks m []) p
 abbrev pub absentIn : Marks → Event → Bool
 absentIn m e = absent (decodeBooks m []) e
 
--- the first outcome of an order whose test holds, or done
-abbrev pub firstOf : List Outcome → List Bool → Outcome
-firstOf [] bs = Done
-firstOf (o ∷ os) [] = Done
-firstOf (o ∷ os) (b ∷ bs) = cond b o (firstOf os bs)
-
--- the test of an outcome in it
+-- the tests of an order's outcomes, as the code has them: the test of one outcome
 abbrev pub testOf : List Outcome → List Bool → Outcome → Bool
 testOf [] bs x = false
 testOf (o ∷ os) [] x = false
 testOf (o ∷ os) (b ∷ bs) x = cond (eqb (numberOf o) (numberOf x)) b (testOf os bs x)
+
+-- the first outcome of an order whose test holds, or done
+abbrev pub firstOf : List Outcome → List Bool → Outcome
+firstOf os bs = judge (testOf os bs) os
 
 -- creates [O6]
 abbrev pub createTests : Event → Bool → ℕ → Facts → Bool → List Bool

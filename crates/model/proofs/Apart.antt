@@ -9,14 +9,14 @@ use lib.Dec.{eqb, ltb}
 use lib.ListN.{length}
 use native.Mathlib.Omega.{arith}
 use borrow.Author.Tests.{eqb-true, eqb-false, eq-eqb, ne-eqb, lt-ltb}
-use Rattle.model.specs.Basics.{All, none, with, iff}
-use Rattle.model.specs.Table.{Change, nameOf, change, changes, adds, Rising, inLine, rowsOf}
+use Rattle.model.specs.Basics.{All, none, with, iff, keep}
+use Rattle.model.specs.Table.{Change, nameOf, change, changes, inLine, rowsOf}
 use Rattle.model.specs.Given.{Result}
 use Rattle.model.specs.Step.{Step, after}
 use Rattle.model.specs.Exchange.{isFor, mailOf}
 use Rattle.model.proofs.Lists.{keep-append, keep-none}
-use Rattle.model.proofs.TableLaws.{rising-change, change-comm, length-changes, part-out, part-in}
-use Rattle.model.proofs.Exchanges.{Commute}
+use Rattle.model.proofs.TableLaws.{adds, Rising, rising-change, change-comm, length-changes, part-out, part-in}
+use Rattle.model.proofs.Exchanges.{Commutes, reads}
 use Rattle.model.specs.declared.Id.{Id}
 use Rattle.model.specs.declared.Version.{Version}
 use Rattle.model.specs.declared.Event.{Event}
@@ -120,19 +120,21 @@ module _ (lineOf : ℕ → ℕ) where
         (lt-ltb (length (after (stepBy lineOf rule cap) e t)) cap (omega (arith, grown e t)) ∙ sym (lt-ltb (length t) cap (omega arith)))
         (rows-out (lineOf (e .tn .0)) (lineOf (f .tn .0)) ((stepBy lineOf rule cap e t) .does) t ((fine e t) .near) n)
 
-    pub apart : (e f : Event) (t : List Version) → (lineOf (e .tn .0) ≡ lineOf (f .tn .0) → ⊥) → Rising t → length t + 2 ≤ cap → Commute (stepBy lineOf rule cap) e f t
+    pub apart : (e f : Event) (t : List Version) → (lineOf (e .tn .0) ≡ lineOf (f .tn .0) → ⊥) → Rising t → length t + 2 ≤ cap
+        → Commutes (stepBy lineOf rule cap) e f t
     apart e f t n r h =
         let E : Result = stepBy lineOf rule cap e t in
         let F : Result = stepBy lineOf rule cap f t in
         let p : stepBy lineOf rule cap f (after (stepBy lineOf rule cap) e t) ≡ F = unseen e f t n h in
         let q : stepBy lineOf rule cap e (after (stepBy lineOf rule cap) f t) ≡ E = unseen f e t (λ x. n (sym x)) h in
         record {
-          tables = ap (λ (x : Result). changes (x .does) (changes (E .does) t)) p
+          states = ap (λ (x : Result). changes (x .does) (changes (E .does) t)) p
               ∙ all-all (lineOf (e .tn .0)) (lineOf (f .tn .0)) (E .does) (F .does) t ((fine e t) .near) ((fine f t) .near) n r
               ∙ ap (λ (x : Result). changes (x .does) (changes (F .does) t)) (sym q);
           first = ap (λ (x : Result). x .out) q;
           second = ap (λ (x : Result). x .out) p;
-          mail = λ y s k. ap (λ (x : Result). mailOf y s k (E .sent ++ x .sent)) p
-              ∙ mail-comm (lineOf (e .tn .0)) (lineOf (f .tn .0)) (E .sent) (F .sent) y s k ((fine e t) .about) ((fine f t) .about) n
-              ∙ ap (λ (x : Result). mailOf y s k (F .sent ++ x .sent)) (sym q);
+          mail = λ a. ap (λ (x : Result). keep (reads a) (E .sent ++ x .sent)) p
+              ∙ mail-comm (lineOf (e .tn .0)) (lineOf (f .tn .0)) (E .sent) (F .sent) (a .local) (a .provider) (a .number)
+              ((fine e t) .about) ((fine f t) .about) n
+              ∙ ap (λ (x : Result). keep (reads a) (F .sent ++ x .sent)) (sym q);
         }

@@ -9,18 +9,19 @@ use native.Mathlib.Omega.{arith}
 use borrow.Author.Tests.{eqb-true, ltb-true, not-false}
 use Rattle.systems.specs.Set.{member}
 use Rattle.systems.specs.Laws.{without-other}
+use Rattle.model.specs.Versions.{recast}
 use Rattle.model.specs.Retries.{used}
 use Rattle.model.specs.Closing.{open?, closed, settled}
 use Rattle.model.specs.Answers.{answering, awaited, again, succeeds, moves, moved, heard, askedAgain}
 use Rattle.model.specs.Refusals.{beforeStart}
-use Rattle.model.specs.Outcomes.{judge, answerOrder}
+use Rattle.model.specs.Outcomes.{numberOf, judge, answerOrder}
 use Rattle.model.proofs.Lists.{clash, and-r}
 use Rattle.model.proofs.Digits.{used-other, used-comm}
 use Rattle.model.specs.declared.Broadcast.{Broadcast}
 use Rattle.model.specs.declared.Version.{Version}
 use Rattle.model.specs.declared.Event.{Event}
 use Rattle.model.specs.declared.Outcome.{Outcome}
-use Rattle.model.specs.declared.Outcome.the-variants.{Done, Unsound, Malformed, Absent, Unlisted, Unknown, Standless, Misplaced, Early, Unfit, Busy, Unawaited, NotCurrent, Full, Exhausted}
+use Rattle.model.specs.declared.Outcome.the-variants.{Early, Unawaited}
 
 pub member-none : (p : ℕ) → member 0 p ≡ false
 unfolding member
@@ -28,21 +29,7 @@ member-none p = ap (λ (x : ℕ). eqb x 1) (let z : 0 / 2 ^ p ≡ 0 = zero-div (
 
 -- what an answer for a version gets, in the order of its kind
 abbrev pub holdsFor : Event → Version → Outcome → Bool
-holdsFor e v Done = false
-holdsFor e v Unsound = false
-holdsFor e v Malformed = false
-holdsFor e v Absent = false
-holdsFor e v Unlisted = false
-holdsFor e v Unknown = false
-holdsFor e v Standless = false
-holdsFor e v Misplaced = false
-holdsFor e v Early = beforeStart e v
-holdsFor e v Unfit = false
-holdsFor e v Busy = false
-holdsFor e v Unawaited = not (awaited e v)
-holdsFor e v NotCurrent = false
-holdsFor e v Full = false
-holdsFor e v Exhausted = false
+holdsFor e v o = cond (eqb (numberOf o) (numberOf Unawaited)) (not (awaited e v)) (eqb (numberOf o) (numberOf Early) && beforeStart e v)
 
 abbrev pub unheard : Event → Version → Outcome
 unheard e v = judge (holdsFor e v) answerOrder
@@ -122,17 +109,8 @@ module _ (most : ℕ) (small : most ≤ 7) where
   pub heard-comm : (e f : Event) (v : Version) → 1 ≤ answering e → 1 ≤ answering f → (answering e ≡ answering f → ⊥)
       → heard most f (heard most e v) ≡ heard most e (heard most f v)
   unfolding heard
-  heard-comm e f v le lf n = λ i. record {
-    id = v .id;
-    status = v .status;
-    stamp = stamps (v .stamp) (e .time) (f .time) i;
-    live = v .live;
-    new = v .new;
-    old = v .old;
-    canceller = v .canceller;
-    window = v .window;
-    cast = moved-comm e f (v .cast) le lf n i;
-  }
+  heard-comm e f v le lf n =
+      λ i. recast v (v .status) (stamps (v .stamp) (e .time) (f .time) i) (v .live) (v .new) (moved-comm e f (v .cast) le lf n i)
     where
       stamps : (a b c : ℕ) → max (max a b) c ≡ max (max a c) b
       stamps a b c = omega arith

@@ -3,29 +3,28 @@
 use mathlib.Core.Path.{_≡_, refl, sym, ap, _∙_}
 use Prim.Native.Nat.{ℕ, zero, suc, _+_, _≤_}
 use mathlib.Core.Bool.{Bool, true, false, cond}
-use mathlib.Core.Option.{Option, none as nothing, some}
 use mathlib.Core.List.{List, [], _∷_, _++_, map}
 use lib.Dec.{eqb}
 use lib.ListN.{length, length-append, length-map}
 use native.Mathlib.Omega.{arith}
 use borrow.Author.Tests.{eqb-true, not-false}
 use Rattle.systems.specs.Set.{member}
-use Rattle.model.specs.Basics.{among, none}
+use Rattle.model.specs.Basics.{none}
 use Rattle.model.specs.Books.{Books}
 use Rattle.model.specs.Table.{Change, rowsOf}
-use Rattle.model.specs.Record.{isCreate, isAnswer, isBroadcast, wellFormed}
-use Rattle.model.specs.Outcomes.{isDone, judge, orderOf}
+use Rattle.model.specs.Record.{wellFormed}
+use Rattle.model.specs.Outcomes.{isDone}
 use Rattle.model.specs.Selection.{selectedFor}
-use Rattle.model.specs.Given.{Given, Result, refuse, accept, found, rest, workedOne}
+use Rattle.model.specs.Given.{Given, Result, refuse, accept, rest}
 use Rattle.model.specs.Tray.{membersTo, members, sidesTold, toSoas, downloads, downloadTo, statusTold, attributesTold, restatedTold}
-use Rattle.model.specs.Creates.{creates, createOn, concurred}
-use Rattle.model.specs.Changes.{modified, windowRuns, marks}
+use Rattle.model.specs.Creates.{creates, concurred}
+use Rattle.model.specs.Changes.{modified}
 use Rattle.model.specs.Closing.{open?, closed, closingTold, settlingTold}
 use Rattle.model.specs.Broadcast.{opened, broadcasts}
 use Rattle.model.specs.Answers.{answers, heard, askedAgain, again, answering}
-use Rattle.model.specs.Refusals.{refuses}
-use Rattle.model.specs.Step.{whenFound, manages, accepted, rule, Setting, line, unsound, given, step, stepOf, after}
+use Rattle.model.specs.Step.{manages, accepted, judged, rule, Setting, line, unsound, given, step, stepOf, after}
 use Rattle.model.proofs.Lists.{clash}
+use Rattle.model.proofs.Ways.{by-test, by-way, by-worked, by-kind, by-order}
 use Rattle.model.proofs.Arrivals.{member-none}
 use Rattle.model.proofs.Apart.{stepBy, Fine, fine, rows-out}
 use Rattle.model.proofs.Locality.{ruleIn, local}
@@ -46,14 +45,6 @@ modest-refuse o = record { few = omega arith; nothing-sent = λ q. refl; nothing
 
 modest-accept : (ms : List Message) (cs : List Change) → length ms ≤ 63 → Modest (accept ms cs)
 modest-accept ms cs h = record { few = h; nothing-sent = λ q. clash (sym q); nothing-done = λ q. clash (sym q) }
-
-modest-cond : (b : Bool) {x y : Result} → Modest x → Modest y → Modest (cond b x y)
-modest-cond true h k = h
-modest-cond false h k = k
-
-modest-found : (o : Option Version) (f : Version → Result) → ((v : Version) → Modest (f v)) → Modest (whenFound o f)
-modest-found nothing f h = modest-refuse Unknown
-modest-found (some v) f h = h v
 
 -- ---- how many
 
@@ -117,40 +108,38 @@ modest-answers most e v others =
     one false = omega arith
 
 modest-creates : (e : Event) (r : List Version) → Modest (creates e r)
-unfolding creates
-modest-creates e r = go (workedOne r)
-  where
-    go : (o : Option Version) → Modest (createOn e r o)
-    go nothing = modest-accept _ _ (omega arith)
-    go (some v) = modest-accept _ _ (omega (arith, told-two v (concurred e v)))
+modest-creates e r =
+    by-worked Modest e r (λ _. modest-accept _ _ (omega arith)) (λ v _. modest-accept _ _ (omega (arith, told-two v (concurred e v))))
 
 modest-manages : (bk : Books) (e : Event) (v : Version) (others : List Version) → Modest (manages bk e v others)
-unfolding manages windowRuns broadcasts
-modest-manages bk e v others =
-    modest-cond (among (e .kind) (3 ∷ 4 ∷ [])) (modest-accept _ _ (omega (arith, told-two v (modified e v))))
-    (modest-cond (eqb (e .kind) 6) (modest-accept _ _ (omega arith))
-    (modest-cond (eqb (e .kind) 7) (modest-accept _ _ (omega arith))
-    (modest-cond (eqb (e .kind) 8) (modest-accept _ _ (omega arith))
-    (modest-cond (eqb (e .kind) 13) (modest-cond (marks v) (modest-accept _ _ (omega arith)) (modest-accept _ _ (omega arith)))
-    (modest-cond (isBroadcast (e .kind)) (modest-accept _ _ (broadcast-few (opened (selectedFor bk (v .id .tn)) e v))) (modest-accept _ _ (omega arith)))))))
+unfolding broadcasts
+modest-manages bk e v others = by-way Modest bk e v others (record {
+  modify = λ _. modest-accept _ _ (omega (arith, told-two v (modified e v)));
+  cancel = λ _. modest-accept _ _ (omega arith);
+  acknowledge = λ _. modest-accept _ _ (omega arith);
+  resolve = λ _. modest-accept _ _ (omega arith);
+  mark = λ _ _. modest-accept _ _ (omega arith);
+  turn = λ _ _. modest-accept _ _ (omega arith);
+  broadcast = λ _. modest-accept _ _ (broadcast-few (opened (selectedFor bk (v .id .tn)) e v));
+  purge = modest-accept _ _ (omega arith);
+})
 
 modest-accepted : (g : Given) → Modest (accepted g)
-unfolding accepted
-modest-accepted g =
-    modest-cond (isCreate (g .event .kind)) (modest-creates (g .event) (g .rows))
-    (modest-cond (isAnswer (g .event .kind)) (modest-found (found g) _ (λ v. modest-answers (g .most) (g .event) v (rest g)))
-    (modest-found (found g) _ (λ v. modest-manages (g .books) (g .event) v (rest g))))
+modest-accepted g = by-kind Modest g (record {
+  create = λ _. modest-creates (g .event) (g .rows);
+  answer = λ _ _ v _. modest-answers (g .most) (g .event) v (rest g);
+  manage = λ _ _ v _. modest-manages (g .books) (g .event) v (rest g);
+  unknown = modest-refuse Unknown;
+})
 
 pub modest-rule : (g : Given) → Modest (rule g)
-unfolding rule
-modest-rule g =
-    let o : Outcome = judge (refuses g) (orderOf (g .event .kind)) in
-    modest-cond (isDone o) (modest-accepted g) (modest-refuse o)
+modest-rule g = by-order Modest g (λ _. modest-accepted g) (λ _. modest-refuse (judged g))
 
 pub modest-step : (s : Setting) (e : Event) (t : List Version) → Modest (stepOf s e t)
 unfolding step
 modest-step s e t =
-    modest-cond (unsound s t) (modest-refuse Unsound) (modest-cond (wellFormed e) (modest-rule (given s e t)) (modest-refuse Malformed))
+    by-test Modest (unsound s t) (λ _. modest-refuse Unsound)
+    (λ _. by-test Modest (wellFormed e) (λ _. modest-rule (given s e t)) (λ _. modest-refuse Malformed))
 
 -- ---- the event's own number
 

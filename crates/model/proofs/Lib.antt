@@ -1,6 +1,9 @@
 pub mod Lists
 pub mod Order
+pub mod Outcomes
 pub mod TableLaws
+pub mod Ways
+pub mod Stays
 pub mod Exchanges
 pub mod Apart
 pub mod Locality

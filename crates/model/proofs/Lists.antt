@@ -16,6 +16,11 @@ use Rattle.model.specs.Basics.{iff, keep, first, all, All, none, with}
 pub clash : {X : Type 0} → _≡_ {A = Bool} false true → X
 clash q = absurd (false≢true q)
 
+-- what holds of both holds of either
+pub either : {A : Type 0} (P : A → Type 0) (b : Bool) {x y : A} → P x → P y → P (cond b x y)
+either P true h k = h
+either P false h k = k
+
 pub none-true : (b : Bool) → (b ≡ true → ⊥) → b ≡ false
 none-true true h = absurd (h refl)
 none-true false h = refl

@@ -3,28 +3,28 @@
 use mathlib.Core.Path.{_≡_, refl, ap}
 use Prim.Native.Nat.{ℕ, _+_}
 use mathlib.Core.Bool.{Bool, true, false, cond, _&&_}
-use mathlib.Core.Option.{Option, none as nothing, some}
+use mathlib.Core.Option.{some}
 use mathlib.Core.List.{List, [], _∷_, _++_, map}
 use lib.Dec.{eqb}
 use native.Mathlib.Omega.{arith}
-use Rattle.model.specs.Basics.{keep, among, none, with}
+use Rattle.model.specs.Basics.{keep, none, with}
 use Rattle.model.specs.Books.{Books, lineOf}
-use Rattle.model.specs.Table.{put, add, strike, find, others, notNamed, adds}
+use Rattle.model.specs.Table.{put, add, strike, find, others, notNamed}
 use Rattle.model.specs.Sound.{live, worked}
-use Rattle.model.specs.Record.{isCreate, isAnswer, isBroadcast, wellFormed}
-use Rattle.model.specs.Outcomes.{isDone, judge, orderOf}
+use Rattle.model.specs.Record.{wellFormed}
 use Rattle.model.specs.Selection.{selectedFor}
-use Rattle.model.specs.Given.{Given, Result, refuse, accept, nameIn, found, rest, workedOne}
-use Rattle.model.specs.Tray.{toSoas, message, sidesTold, members, downloads, downloadTo, restatedTold, windowTold, toldAtClose}
-use Rattle.model.specs.Creates.{creates, createOn, freshVersion, concurred}
-use Rattle.model.specs.Changes.{modifies, modified, newModified, oldModified, turns, cancelled, acknowledged, resolved, windowRuns, windowMarked, windowTurned, marks}
+use Rattle.model.specs.Given.{Given, refuse, accept, nameIn, rest}
+use Rattle.model.specs.Tray.{toSoas, message, sidesTold, members, downloads, downloadTo, restatedTold, toldAtClose}
+use Rattle.model.specs.Creates.{creates, freshVersion, concurred}
+use Rattle.model.specs.Changes.{modifies, modified, newModified, oldModified, turns, cancelled, acknowledged, resolved, windowMarked}
+use Rattle.model.specs.Changes.{windowMarks, windowTurned}
 use Rattle.model.specs.Closing.{open?, closed, retired, retiring, retires, takesOver, closingTold, settled, settles, settlingTold}
 use Rattle.model.specs.Broadcast.{opened, broadcasts}
 use Rattle.model.specs.Answers.{answers, heard, askedAgain, again}
-use Rattle.model.specs.Refusals.{refuses}
-use Rattle.model.specs.Step.{whenFound, manages, accepted, rule, Setting}
-use Rattle.model.proofs.Lists.{all-cond, all-append, all-map, all-any, all-keep, all-first}
-use Rattle.model.proofs.TableLaws.{find-name}
+use Rattle.model.specs.Step.{manages, accepted, judged, rule, Setting}
+use Rattle.model.proofs.Lists.{either, all-cond, all-append, all-map, all-any, all-keep, all-first}
+use Rattle.model.proofs.Ways.{by-test, by-way, by-worked, by-kind, by-order}
+use Rattle.model.proofs.TableLaws.{adds, find-name}
 use Rattle.model.proofs.Apart.{Rule, Near, About, Rows, Fine, Local}
 use Rattle.model.specs.declared.Id.{Id}
 use Rattle.model.specs.declared.Lrn.{Lrn}
@@ -47,23 +47,11 @@ module _ (lineOf : ℕ → ℕ) (l : ℕ) where
   fine-refuse : (o : Outcome) → Fine lineOf l (refuse o)
   fine-refuse o = record { near = none; about = none; grows = omega arith }
 
-  fine-cond : (b : Bool) {x y : Result} → Fine lineOf l x → Fine lineOf l y → Fine lineOf l (cond b x y)
-  fine-cond true h k = h
-  fine-cond false h k = k
-
-  fine-found : (o : Option Version) (f : Version → Result) → ((v : Version) → o ≡ some v → Fine lineOf l (f v)) → Fine lineOf l (whenFound o f)
-  fine-found nothing f h = fine-refuse Unknown
-  fine-found (some v) f h = h v refl
-
   abbrev In : Version → Type 0
   In v = lineOf (v .id .tn .0) ≡ l
 
   abbrev Mail : List Message → Type 0
   Mail ms = About lineOf l ms
-
-  in-cond : (b : Bool) (v w : Version) → In v → In w → In (cond b v w)
-  in-cond true v w h k = h
-  in-cond false v w h k = k
 
   fine-put : {w : Version} {ms : List Message} → In w → Mail ms → Fine lineOf l (accept ms (put w ∷ []))
   fine-put h k = record { near = with h none; about = k; grows = omega arith }
@@ -92,7 +80,7 @@ module _ (lineOf : ℕ → ℕ) (l : ℕ) where
 
   in-settled : (v : Version) → In v → In (settled v)
   unfolding settled closed
-  in-settled v h = in-cond (open? v) v (closed v) h h
+  in-settled v h = either In (open? v) h h
 
   near-settles : (v : Version) (others : List Version) → Rows lineOf l others → Near lineOf l (settles v others)
   unfolding settles retires retired
@@ -133,22 +121,21 @@ module _ (lineOf : ℕ → ℕ) (e : Event) where
       fine-settles lineOf L (heard most e v) others (askedAgain most e v) h k (all-cond (again most e (v .cast)) (with h none) none)
 
   fine-creates : (r : List Version) → Rows lineOf L r → Fine lineOf L (creates e r)
-  unfolding creates freshVersion concurred
-  fine-creates r h = go (workedOne r) (λ v q. all-first worked v h q)
-    where
-      go : (o : Option Version) → ((v : Version) → o ≡ some v → Own v) → Fine lineOf L (createOn e r o)
-      go nothing w = fine-add lineOf L refl (mail-soas lineOf L (freshVersion e r) _ _ _ (sidesTold (freshVersion e r)) refl)
-      go (some v) w = fine-put lineOf L (w v refl) (mail-restated lineOf L v (concurred e v) (w v refl))
+  unfolding freshVersion concurred
+  fine-creates r h =
+      by-worked (Fine lineOf L) e r
+      (λ _. fine-add lineOf L refl (mail-soas lineOf L (freshVersion e r) _ _ _ (sidesTold (freshVersion e r)) refl))
+      (λ v q. let own : Own v = all-first worked v h q in fine-put lineOf L own (mail-restated lineOf L v (concurred e v) own))
 
   fine-modifies : (v : Version) → Own v → Fine lineOf L (modifies e v)
   unfolding newModified oldModified
   fine-modifies v h =
-      let own : Own (modified e v) = in-cond lineOf L (eqb (e .kind) 3) (newModified e v) (oldModified e v) h h in
+      let own : Own (modified e v) = either Own (eqb (e .kind) 3) h h in
       fine-put lineOf L own (mail-restated lineOf L v (modified e v) own)
 
   fine-cancelled : (v : Version) → Own v → Fine lineOf L (turns (cancelled e v))
   unfolding cancelled
-  fine-cancelled v h = fine-turns lineOf L (cancelled e v) (in-cond lineOf L (v .new .created && v .old .created) _ _ h h)
+  fine-cancelled v h = fine-turns lineOf L (cancelled e v) (either Own (v .new .created && v .old .created) h h)
 
   fine-acknowledged : (v : Version) → Own v → Fine lineOf L (turns (acknowledged e v))
   unfolding acknowledged
@@ -158,15 +145,13 @@ module _ (lineOf : ℕ → ℕ) (e : Event) where
   unfolding resolved
   fine-resolved v h = fine-turns lineOf L (resolved e v) h
 
-  fine-marked : (v : Version) → Own v → Fine lineOf L (accept (windowTold (windowMarked e v)) (put (windowMarked e v) ∷ []))
+  fine-marked : (v : Version) → Own v → Fine lineOf L (windowMarks e v)
   unfolding windowMarked
   fine-marked v h = fine-put lineOf L h (mail-soas lineOf L (windowMarked e v) _ _ _ (v .old .provider ∷ []) h)
 
-  fine-window : (v : Version) → Own v → Fine lineOf L (windowRuns e v)
-  unfolding windowRuns windowTurned
-  fine-window v h =
-      fine-cond lineOf L (marks v) (fine-marked v h)
-      (fine-turns lineOf L (windowTurned e v) (in-cond lineOf L (eqb (v .status) 2) _ _ h h))
+  fine-turned : (v : Version) → Own v → Fine lineOf L (turns (windowTurned e v))
+  unfolding windowTurned
+  fine-turned v h = fine-turns lineOf L (windowTurned e v) (either Own (eqb (v .status) 2) h h)
 
   fine-broadcasts : (bk : Books) (v : Version) (others : List Version) → Own v → Rows lineOf L others → Fine lineOf L (broadcasts bk e v others)
   unfolding broadcasts opened
@@ -176,31 +161,34 @@ module _ (lineOf : ℕ → ℕ) (e : Event) where
       (all-map (λ (p : ℕ). Unit {0}) (downloadTo w) (all-any (members (w .cast .waiting))) (λ a q. h))
 
   fine-manages : (bk : Books) (v : Version) (others : List Version) → Own v → Rows lineOf L others → Fine lineOf L (manages bk e v others)
-  unfolding manages
-  fine-manages bk v others h k =
-      fine-cond lineOf L (among (e .kind) (3 ∷ 4 ∷ [])) (fine-modifies v h)
-      (fine-cond lineOf L (eqb (e .kind) 6) (fine-cancelled v h)
-      (fine-cond lineOf L (eqb (e .kind) 7) (fine-acknowledged v h)
-      (fine-cond lineOf L (eqb (e .kind) 8) (fine-resolved v h)
-      (fine-cond lineOf L (eqb (e .kind) 13) (fine-window v h)
-      (fine-cond lineOf L (isBroadcast (e .kind)) (fine-broadcasts bk v others h k) (fine-strike lineOf L h))))))
+  fine-manages bk v others h k = by-way (Fine lineOf L) bk e v others (record {
+    modify = λ _. fine-modifies v h;
+    cancel = λ _. fine-cancelled v h;
+    acknowledge = λ _. fine-acknowledged v h;
+    resolve = λ _. fine-resolved v h;
+    mark = λ _ _. fine-marked v h;
+    turn = λ _ _. fine-turned v h;
+    broadcast = λ _. fine-broadcasts bk v others h k;
+    purge = fine-strike lineOf L h;
+  })
 
-pub fine-accepted : (lineOf : ℕ → ℕ) (g : Given) → Rows lineOf (lineOf (g .event .tn .0)) (g .rows) → Fine lineOf (lineOf (g .event .tn .0)) (accepted g)
-unfolding accepted
+fine-accepted : (lineOf : ℕ → ℕ) (g : Given) → Rows lineOf (lineOf (g .event .tn .0)) (g .rows)
+    → Fine lineOf (lineOf (g .event .tn .0)) (accepted g)
 fine-accepted lineOf g h =
     let e : Event = g .event in
     let l : ℕ = lineOf (e .tn .0) in
     let others-in : Rows lineOf l (rest g) = all-keep (λ (w : Version). notNamed (nameIn e) (w .id)) h in
-    fine-cond lineOf l (isCreate (e .kind)) (fine-creates lineOf e (g .rows) h)
-    (fine-cond lineOf l (isAnswer (e .kind))
-    (fine-found lineOf l (found g) _ (λ v q. fine-answers lineOf e (g .most) v (rest g) (named lineOf e (g .rows) v q) others-in))
-    (fine-found lineOf l (found g) _ (λ v q. fine-manages lineOf e (g .books) v (rest g) (named lineOf e (g .rows) v q) others-in)))
+    by-kind (Fine lineOf l) g (record {
+      create = λ _. fine-creates lineOf e (g .rows) h;
+      answer = λ _ _ v q. fine-answers lineOf e (g .most) v (rest g) (named lineOf e (g .rows) v q) others-in;
+      manage = λ _ _ v q. fine-manages lineOf e (g .books) v (rest g) (named lineOf e (g .rows) v q) others-in;
+      unknown = fine-refuse lineOf l Unknown;
+    })
 
 pub local : (lineOf : ℕ → ℕ) (s : Setting) → Local lineOf (ruleIn s)
-unfolding rule
 local lineOf s free e r h =
     let g : Given = record { books = s .books; most = s .most; free = free; event = e; rows = r } in
     let l : ℕ = lineOf (e .tn .0) in
-    fine-cond lineOf l (wellFormed e)
-    (fine-cond lineOf l (isDone (judge (refuses g) (orderOf (e .kind)))) (fine-accepted lineOf g h) (fine-refuse lineOf l _))
-    (fine-refuse lineOf l Malformed)
+    by-test (Fine lineOf l) (wellFormed e)
+    (λ _. by-order (Fine lineOf l) g (λ _. fine-accepted lineOf g h) (λ _. fine-refuse lineOf l (judged g)))
+    (λ _. fine-refuse lineOf l Malformed)

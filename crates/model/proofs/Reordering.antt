@@ -10,14 +10,13 @@ use native.Mathlib.Omega.{arith}
 use borrow.Author.Tests.{leb-true, not-false}
 use Rattle.model.specs.Basics.{none, with}
 use Rattle.model.specs.Books.{soundBooks, soundRetries}
-use Rattle.model.specs.Table.{Rising}
 use Rattle.model.specs.Sound.{soundTable}
 use Rattle.model.specs.Given.{nameIn}
 use Rattle.model.specs.Step.{Setting, Step, line, unsound, PLACES, step, stepOf, after, final, outcomes, messages}
 use Rattle.model.specs.Exchange.{Answers, Exchangeable, lines, answers, May, Same, reorder, mailOf, Demand3}
 use Rattle.model.proofs.Lists.{conj-at, conj-all}
-use Rattle.model.proofs.TableLaws.{rising-changes}
-use Rattle.model.proofs.Exchanges.{Commute, all}
+use Rattle.model.proofs.TableLaws.{Rising, rising-changes}
+use Rattle.model.proofs.Exchanges.{Commutes, stepping, reads, same-events, all}
 use Rattle.model.proofs.Apart.{stepBy, grown, apart}
 use Rattle.model.proofs.Locality.{ruleIn, local}
 use Rattle.model.proofs.Replies.{replies-commute}
@@ -46,22 +45,25 @@ module _ (s : Setting) (small : s .most ≤ 7) where
   }
 
   -- of different numbers: this knows of the rules only that they are local
-  commute-lines : (n : ℕ) (e f : Event) (t : List Version) → (line s (e .tn .0) ≡ line s (f .tn .0) → ⊥) → Good (s .rows) (suc (suc n)) t → Commute (bare s) e f t
+  commute-lines : (n : ℕ) (e f : Event) (t : List Version) → (line s (e .tn .0) ≡ line s (f .tn .0) → ⊥) → Good (s .rows) (suc (suc n)) t
+      → Commutes (bare s) e f t
   commute-lines n e f t d g =
       apart (line s) (ruleIn s) (local (line s) s) (s .rows) e f t d (g .rising) (let h : length t + suc (suc n) ≤ s .rows = g .room in omega arith)
 
   -- answers for one version: this knows the rule of answers
-  commute-answers : (n : ℕ) (e f : Event) (t : List Version) → Answers e f → Good (s .rows) (suc (suc n)) t → Commute (bare s) e f t
+  commute-answers : (n : ℕ) (e f : Event) (t : List Version) → Answers e f → Good (s .rows) (suc (suc n)) t → Commutes (bare s) e f t
   commute-answers n e f t a g =
       replies-commute (line s) s small (nameIn e) (line s (e .tn .0)) t (g .rising) e f (a .first) (a .second) refl
       (λ i. record { tn = record { 0 = sym (a .tns) i }; number = sym (a .versions) i }) refl (ap (line s) (sym (a .tns))) (a .systems)
 
-  commute : (n : ℕ) (e f : Event) (t : List Version) → Exchangeable (line s) e f → Good (s .rows) (suc (suc n)) t → Commute (bare s) e f t
+  commute : (n : ℕ) (e f : Event) (t : List Version) → Exchangeable (line s) e f → Good (s .rows) (suc (suc n)) t → Commutes (bare s) e f t
   commute n e f t (lines d) g = commute-lines n e f t d g
   commute n e f t (answers a) g = commute-answers n e f t a g
 
   bare-same : (ns : List ℕ) (es : List Event) (t : List Version) → Rising t → length t + length es ≤ s .rows → May (Exchangeable (line s)) ns es → Same (bare s) ns es t
-  bare-same ns es t r room may = all (bare s) (Good (s .rows)) next (Exchangeable (line s)) commute ns es t may (record { rising = r; room = room })
+  bare-same ns es t r room may =
+      same-events (bare s) ns es t
+      (all (stepping (bare s)) reads (Good (s .rows)) next (Exchangeable (line s)) commute ns es t may (record { rising = r; room = room }))
 
 -- ---- with it: where every step keeps a table that passes, the test changes nothing
 

@@ -8,7 +8,7 @@ use mathlib.Core.List.{List, [], _∷_, _++_, map, append-nil, append-assoc}
 use lib.Dec.{eqb}
 use borrow.Author.Tests.{eqb-true, eqb-false, ne-eqb}
 use Rattle.model.specs.Basics.{keep, All, none, with}
-use Rattle.model.specs.Table.{Change, put, change, changes, find, notNamed, others, rowsOf, Rising}
+use Rattle.model.specs.Table.{Change, put, change, changes, find, notNamed, others, rowsOf}
 use Rattle.model.specs.Sound.{live}
 use Rattle.model.specs.Record.{isCreate, isAnswer, wellFormed}
 use Rattle.model.specs.Outcomes.{isDone}
@@ -19,12 +19,13 @@ use Rattle.model.specs.Answers.{answering, awaited, again, heard, askedA
 use Rattle.model.specs.Refusals.{absent, early, unawaited, beforeStart}
 use Rattle.model.specs.Step.{Setting, accepted, rule, after}
 use Rattle.model.specs.Exchange.{mailOf}
-use Rattle.model.proofs.Lists.{keep-append, all-keep, passed, clash}
+use Rattle.model.proofs.Lists.{either, keep-append, all-keep, passed, clash}
 use Rattle.model.proofs.Order.{order-self}
-use Rattle.model.proofs.TableLaws.{put-cover, find-name, find-put, find-other, part-out}
-use Rattle.model.proofs.Exchanges.{Commute, turned}
+use Rattle.model.proofs.TableLaws.{Rising, put-cover, find-name, find-put, find-other, part-out}
+use Rattle.model.proofs.Exchanges.{Commutes, turned, stepping, reads}
 use Rattle.model.proofs.Apart.{Near, stepBy, rows-in, fine}
 use Rattle.model.proofs.Locality.{ruleIn, local}
+use Rattle.model.proofs.Stays.{heard-stays}
 use Rattle.model.proofs.Formed.{answering-named}
 use Rattle.model.proofs.Arrivals.{unheard, heard-comm, unheard-other, unheard-settled, asked-other, open-waits}
 use Rattle.model.specs.declared.Id.{Id}
@@ -32,7 +33,7 @@ use Rattle.model.specs.declared.Version.{Version}
 use Rattle.model.specs.declared.Event.{Event}
 use Rattle.model.specs.declared.Message.{Message}
 use Rattle.model.specs.declared.Outcome.{Outcome}
-use Rattle.model.specs.declared.Outcome.the-variants.{Done, Unsound, Malformed, Absent, Unlisted, Unknown, Standless, Misplaced, Early, Unfit, Busy, Unawaited, NotCurrent, Full, Exhausted}
+use Rattle.model.specs.declared.Outcome.the-variants.{Done, Malformed, Absent, Unknown, Early, Unawaited}
 
 -- ---- names
 
@@ -61,34 +62,14 @@ find-settles k w r t = go (open? w) (takesOver w)
 
 pub settled-id : (w : Version) → settled w .id ≡ w .id
 unfolding settled closed
-settled-id w = go (open? w)
-  where
-    go : (b : Bool) → (cond b w (closed w)) .id ≡ w .id
-    go true = refl
-    go false = refl
+settled-id w = either (λ (x : Version). x .id ≡ w .id) (open? w) refl refl
 
 pub heard-id : (most : ℕ) (g : Event) (v : Version) → heard most g v .id ≡ v .id
-unfolding heard
-heard-id most g v = refl
+heard-id most g v = heard-stays most g v .name
 
--- ---- outcomes
-
-pub done-is : (o : Outcome) → isDone o ≡ true → o ≡ Done
-done-is Done h = refl
-done-is Unsound h = clash h
-done-is Malformed h = clash h
-done-is Absent h = clash h
-done-is Unlisted h = clash h
-done-is Unknown h = clash h
-done-is Standless h = clash h
-done-is Misplaced h = clash h
-done-is Early h = clash h
-done-is Unfit h = clash h
-done-is Busy h = clash h
-done-is Unawaited h = clash h
-done-is NotCurrent h = clash h
-done-is Full h = clash h
-done-is Exhausted h = clash h
+-- an answer for the version is heard
+abbrev Hears : Event → Version → Type 0
+Hears e v = isDone (unheard e v) ≡ true
 
 -- ---- one answer that is heard, where somebody else still waits
 answers-open : (most : ℕ) (g : Event) (v : Version) (others : List Version) → open? (heard most g v) ≡ true
@@ -135,7 +116,7 @@ module _ (line : ℕ → ℕ) (s : Setting) where
   A e t = after (stepBy line (ruleIn s) (s .rows)) e t
 
   abbrev Both : Event → Event → List Version → Type 0
-  Both e f t = Commute (stepBy line (ruleIn s) (s .rows)) e f t
+  Both e f t = Commutes (stepBy line (ruleIn s) (s .rows)) e f t
 
   -- what is refused whatever the table holds
   abbrev barred : Event → Outcome
@@ -146,12 +127,12 @@ module _ (line : ℕ → ℕ) (s : Setting) where
   quiet e f t o p q =
       let stay : A e t ≡ t = ap (λ (x : Result). changes (x .does) t) p in
       record {
-        tables = ap (A f) stay ∙ sym (ap (λ (x : Result). changes (x .does) (A f t)) q);
+        states = ap (A f) stay ∙ sym (ap (λ (x : Result). changes (x .does) (A f t)) q);
         first = ap (λ (x : Result). x .out) q ∙ sym (ap (λ (x : Result). x .out) p);
         second = ap (λ (u : List Version). S f u .out) stay;
-        mail = λ y i k. ap₂ (λ (x : Result) (u : List Version). mailOf y i k (x .sent ++ S f u .sent)) p stay
-            ∙ ap (mailOf y i k) (sym (append-nil (S f t .sent)))
-            ∙ ap (λ (x : Result). mailOf y i k (S f t .sent ++ x .sent)) (sym q);
+        mail = λ r. ap₂ (λ (x : Result) (u : List Version). keep (reads r) (x .sent ++ S f u .sent)) p stay
+            ∙ ap (keep (reads r)) (sym (append-nil (S f t .sent)))
+            ∙ ap (λ (x : Result). keep (reads r) (S f t .sent ++ x .sent)) (sym q);
       }
 
   -- both are heard: the first puts x (or y), the second z over it
@@ -160,13 +141,15 @@ module _ (line : ℕ → ℕ) (s : Setting) where
       → S f (A e t) ≡ accept (b ++ m) (put z ∷ cs) → S e (A f t) ≡ accept (a ++ m) (put z ∷ cs) → x .id ≡ z .id → y .id ≡ z .id
       → ((w : Bool) (i n : ℕ) → mailOf w i n a ++ mailOf w i n b ≡ mailOf w i n b ++ mailOf w i n a) → Both e f t
   both e f t a b m x y z cs p q p′ q′ hx hy sw = record {
-    tables = ap₂ (λ (u w : Result). changes (w .does) (changes (u .does) t)) p p′ ∙ ap (changes cs) (put-cover z x t hx ∙ sym (put-cover z y t hy))
+    states = ap₂ (λ (u w : Result). changes (w .does) (changes (u .does) t)) p p′
+        ∙ ap (changes cs) (put-cover z x t hx ∙ sym (put-cover z y t hy))
         ∙ sym (ap₂ (λ (u w : Result). changes (w .does) (changes (u .does) t)) q q′);
     first = ap (λ (u : Result). u .out) q′ ∙ sym (ap (λ (u : Result). u .out) p);
     second = ap (λ (u : Result). u .out) p′ ∙ sym (ap (λ (u : Result). u .out) q);
-    mail = λ w i n. ap₂ (λ (u v : Result). mailOf w i n (u .sent ++ v .sent)) p p′ ∙ parts w i n a b
-        ∙ ap (λ (l : List Message). l ++ mailOf w i n m) (sw w i n) ∙ sym (parts w i n b a)
-        ∙ sym (ap₂ (λ (u v : Result). mailOf w i n (u .sent ++ v .sent)) q q′);
+    mail = λ r. ap₂ (λ (u v : Result). keep (reads r) (u .sent ++ v .sent)) p p′ ∙ parts (r .local) (r .provider) (r .number) a b
+        ∙ ap (λ (l : List Message). l ++ keep (reads r) m) (sw (r .local) (r .provider) (r .number))
+        ∙ sym (parts (r .local) (r .provider) (r .number) b a)
+        ∙ sym (ap₂ (λ (u v : Result). keep (reads r) (u .sent ++ v .sent)) q q′);
   }
     where
       parts : (w : Bool) (i n : ℕ) (a b : List Message) → mailOf w i n (a ++ (b ++ m)) ≡ mailOf w i n a ++ mailOf w i n b ++ mailOf w i n m
@@ -225,7 +208,7 @@ module _ (line : ℕ → ℕ) (s : Setting) where
       if-deaf : (t : List Version) (v : Version) → find k (rowsOf line l t) ≡ some v → isDone (unheard g v) ≡ false → S g t ≡ refuse (unheard g v)
       if-deaf t v h u = if-found t v h ∙ rw u
 
-      if-heard : (t : List Version) (v : Version) → find k (rowsOf line l t) ≡ some v → unheard g v ≡ Done
+      if-heard : (t : List Version) (v : Version) → find k (rowsOf line l t) ≡ some v → Hears g v
           → S g t ≡ answers (s .most) g v (others k (rowsOf line l t))
       if-heard t v h u = if-found t v h ∙ rw u
 
@@ -236,7 +219,7 @@ module _ (line : ℕ → ℕ) (s : Setting) where
           (subst (λ (m : ℕ). Near line m (S g t .does)) own (fine line (ruleIn s) (local line s) (s .rows) g t .near)) r
 
       -- the version after one that is heard
-      found-after : (t : List Version) (v : Version) → Rising t → find k (rowsOf line l t) ≡ some v → unheard g v ≡ Done
+      found-after : (t : List Version) (v : Version) → Rising t → find k (rowsOf line l t) ≡ some v → Hears g v
           → find k (rowsOf line l (A g t)) ≡ some (settled (heard (s .most) g v))
       unfolding answers heard
       found-after t v r h u =
@@ -245,11 +228,11 @@ module _ (line : ℕ → ℕ) (s : Setting) where
           ∙ find-put k (rowsOf line l t) v (settled (heard (s .most) g v)) h (settled-id (heard (s .most) g v) ∙ find-name k (rowsOf line l t) v h)
 
       -- the same where somebody else waits: the version is the one it put, and the other rows are as before
-      open-step : (t : List Version) (v : Version) → find k (rowsOf line l t) ≡ some v → unheard g v ≡ Done → open? (heard (s .most) g v) ≡ true
+      open-step : (t : List Version) (v : Version) → find k (rowsOf line l t) ≡ some v → Hears g v → open? (heard (s .most) g v) ≡ true
           → S g t ≡ accept (askedAgain (s .most) g v) (put (heard (s .most) g v) ∷ [])
       open-step t v h u o = if-heard t v h u ∙ answers-open (s .most) g v (others k (rowsOf line l t)) o
 
-      open-rows : (t : List Version) (v : Version) → Rising t → find k (rowsOf line l t) ≡ some v → unheard g v ≡ Done
+      open-rows : (t : List Version) (v : Version) → Rising t → find k (rowsOf line l t) ≡ some v → Hears g v
           → open? (heard (s .most) g v) ≡ true → rowsOf line l (A g t) ≡ change (put (heard (s .most) g v)) (rowsOf line l t)
       open-rows t v r h u o = rows-after t r ∙ ap (λ (x : Result). changes (x .does) (rowsOf line l t)) (open-step t v h u o)
 
@@ -263,8 +246,8 @@ module _ (line : ℕ → ℕ) (s : Setting) where
     free : isDone (barred g) ≡ true
     system : 1 ≤ answering g
 
-  awaits : (g : Event) (v : Version) → unheard g v ≡ Done → awaited g v ≡ true
-  awaits g v h = go (awaited g v) refl (ap isDone h)
+  awaits : (g : Event) (v : Version) → Hears g v → awaited g v ≡ true
+  awaits g v h = go (awaited g v) refl h
     where
       go : (b : Bool) → awaited g v ≡ b → isDone (cond (not b) Unawaited (cond (beforeStart g v) Early Done)) ≡ true → awaited g v ≡ true
       go true e q = e
@@ -284,12 +267,12 @@ module _ (line : ℕ → ℕ) (s : Setting) where
 
         go : (b : Bool) → isDone (unheard f v) ≡ b → S e (A f t) ≡ refuse (unheard e v)
         go true q =
-            let uf : unheard f v ≡ Done = done-is (unheard f v) q in
             let w : Version = settled (heard (s .most) f v) in
             let same : unheard e w ≡ unheard e v =
             unheard-settled e (heard (s .most) f v)
-            ∙ unheard-other (s .most) small f e v (yf .system) (ye .system) (λ x. d (sym x)) (awaits f v uf) in
-            if-deaf e (ye .isA) k (ye .name) l (ye .own) (ye .free) (A f t) w (found-after f (yf .isA) k (yf .name) l (yf .own) (yf .free) t v r h uf)
+            ∙ unheard-other (s .most) small f e v (yf .system) (ye .system) (λ x. d (sym x)) (awaits f v q) in
+            if-deaf e (ye .isA) k (ye .name) l (ye .own) (ye .free) (A f t) w
+            (found-after f (yf .isA) k (yf .name) l (yf .own) (yf .free) t v r h q)
             (ap isDone same ∙ ue)
             ∙ ap refuse same
         go false q = ap (S e) (ap (λ (x : Result). changes (x .does) t) (if-deaf f (yf .isA) k (yf .name) l (yf .own) (yf .free) t v h q)) ∙ p
@@ -302,17 +285,18 @@ module _ (line : ℕ → ℕ) (s : Setting) where
 
     module _ (v : Version) (h : find k R ≡ some v) where
       -- what the other gets after the first is what it gets as things are
-      unmoved : (e f : Event) → Ready e k l → Ready f k l → (answering e ≡ answering f → ⊥) → unheard e v ≡ Done
+      unmoved : (e f : Event) → Ready e k l → Ready f k l → (answering e ≡ answering f → ⊥) → Hears e v
           → unheard f (heard (s .most) e v) ≡ unheard f v
       unmoved e f ye yf d ue = unheard-other (s .most) small e f v (ye .system) (yf .system) d (awaits e v ue)
 
       -- the first of two that are heard leaves the broadcast open
-      still-open : (e f : Event) → Ready e k l → Ready f k l → (answering e ≡ answering f → ⊥) → unheard e v ≡ Done → unheard f v ≡ Done
+      still-open : (e f : Event) → Ready e k l → Ready f k l → (answering e ≡ answering f → ⊥) → Hears e v → Hears f v
           → open? (heard (s .most) e v) ≡ true
-      still-open e f ye yf d ue uf = open-waits f (heard (s .most) e v) (awaits f (heard (s .most) e v) (unmoved e f ye yf d ue ∙ uf))
+      still-open e f ye yf d ue uf =
+          open-waits f (heard (s .most) e v) (awaits f (heard (s .most) e v) (ap isDone (unmoved e f ye yf d ue) ∙ uf))
 
       -- and the second finds what the first has put
-      second-step : (e f : Event) → Ready e k l → Ready f k l → (answering e ≡ answering f → ⊥) → unheard e v ≡ Done → unheard f v ≡ Done
+      second-step : (e f : Event) → Ready e k l → Ready f k l → (answering e ≡ answering f → ⊥) → Hears e v → Hears f v
           → S f (A e t) ≡ answers (s .most) f (heard (s .most) e v) (others k R)
       unfolding heard
       second-step e f ye yf d ue uf =
@@ -320,10 +304,11 @@ module _ (line : ℕ → ℕ) (s : Setting) where
           let n : v .id ≡ k = find-name k R v h in
           let er : rowsOf line l (A e t) ≡ change (put w) R =
           open-rows e (ye .isA) k (ye .name) l (ye .own) (ye .free) t v r h ue (still-open e f ye yf d ue uf) in
-          if-heard f (yf .isA) k (yf .name) l (yf .own) (yf .free) (A e t) w (ap (find k) er ∙ find-put k R v w h n) (unmoved e f ye yf d ue ∙ uf)
+          if-heard f (yf .isA) k (yf .name) l (yf .own) (yf .free) (A e t) w (ap (find k) er ∙ find-put k R v w h n)
+          (ap isDone (unmoved e f ye yf d ue) ∙ uf)
           ∙ ap (answers (s .most) f w) (ap (others k) er ∙ part-out (notNamed k) (put w) R (named-out k (v .id) n))
 
-      both-heard : (e f : Event) → Ready e k l → Ready f k l → (answering e ≡ answering f → ⊥) → unheard e v ≡ Done → unheard f v ≡ Done → Both e f t
+      both-heard : (e f : Event) → Ready e k l → Ready f k l → (answering e ≡ answering f → ⊥) → Hears e v → Hears f v → Both e f t
       unfolding answers
       both-heard e f ye yf d ue uf =
           let m : ℕ = s .most in
@@ -348,8 +333,8 @@ module _ (line : ℕ → ℕ) (s : Setting) where
       where
         at : (v : Version) → find k R ≡ some v → (a : Bool) → isDone (unheard e v) ≡ a → (b : Bool) → isDone (unheard f v) ≡ b → Both e f t
         at v h false p b q = deaf e f v ye yf d h p
-        at v h true p false q = turned (stepBy line (ruleIn s) (s .rows)) (deaf f e v yf ye (λ x. d (sym x)) h q)
-        at v h true p true q = both-heard v h e f ye yf d (done-is (unheard e v) p) (done-is (unheard f v) q)
+        at v h true p false q = turned (stepping (stepBy line (ruleIn s) (s .rows))) reads (deaf f e v yf ye (λ x. d (sym x)) h q)
+        at v h true p true q = both-heard v h e f ye yf d p q
 
         go : (o : Option Version) → find k R ≡ o → Both e f t
         go nothing h = lost e f ye yf h
@@ -369,7 +354,8 @@ module _ (line : ℕ → ℕ) (s : Setting) where
         go : (a : Bool) → isDone (barred e) ≡ a → (b : Bool) → isDone (barred f) ≡ b → Both e f t
         go false p b q = quiet e f t (barred e) (if-barred e ae k ne l oe t p) (if-barred e ae k ne l oe (A f t) p)
         go true p false q =
-            turned (stepBy line (ruleIn s) (s .rows)) (quiet f e t (barred f) (if-barred f af k nf l of t q) (if-barred f af k nf l of (A e t) q))
+            turned (stepping (stepBy line (ruleIn s) (s .rows))) reads
+            (quiet f e t (barred f) (if-barred f af k nf l of t q) (if-barred f af k nf l of (A e t) q))
         go true p true q =
             by-found e f
             (record { isA = ae; name = ne; own = oe; free = p; system = answering-named e (formed-of e p) ae .0 })

@@ -6,6 +6,7 @@ use mathlib.Core.Bool.{Bool, true, false, cond, not, _&&_, _||_}
 use mathlib.Core.List.{[], _∷_}
 use lib.Dec.{eqb, leb, ltb}
 use borrow.Author.Tests.{eqb-true, not-false}
+use Rattle.model.specs.Versions.{recast, repurposed}
 use Rattle.model.specs.Basics.{among, iff, implies}
 use Rattle.model.specs.Numbers.{isTime}
 use Rattle.model.specs.Sound.{conflict, cancelPending, sending, failure, partialFailure, active, old, isWorked, isSending, isPurposed, activate, sidesDiffer, newWhole, oldWhole, sidesNeeded, causeFits, setsApart, retriesFit, liveConfirmed, sends}
@@ -138,15 +139,16 @@ close-kept s a b act m f k = go (eqb s 4) refl (eqb s 5) refl (eqb s 6) refl
     go false p false q false r = clash (rw (p, q, r) at m)
 
 at-close : (a b act dis : Bool) → AtClose (closeBy a b act dis) a b act
-at-close true b act true = close-old true b act
-at-close true true true false = close-kept active true true true refl refl refl
-at-close true true false false = close-kept active true true false refl refl refl
-at-close true false true false = close-kept active true false true refl refl refl
-at-close true false false false = close-kept active true false false refl refl refl
+at-close true true true dis = close-kept active true true true refl refl refl
+at-close true false true dis = close-kept active true false true refl refl refl
 at-close false true true dis = close-kept failure false true true refl refl refl
-at-close false true false dis = close-kept active false true false refl refl refl
 at-close false false true dis = close-kept partialFailure false false true refl refl refl
+at-close true b false true = close-old true b false
+at-close false true false true = close-kept active false true false refl refl refl
 at-close false false false true = close-old false false false
+at-close true true false false = close-kept active true true false refl refl refl
+at-close true false false false = close-kept active true false false refl refl refl
+at-close false true false false = close-kept active false true false refl refl refl
 at-close false false false false = close-kept active false false false refl refl refl
 
 pub at-closed : (c : Broadcast) → AtClose (closeTo c) (eqb (c .failed) 0) (eqb (c .confirmed) 0) (eqb (c .purpose) activate)
@@ -155,14 +157,7 @@ at-closed c = at-close (eqb (c .failed) 0) (eqb (c .confirmed) 0) (eqb (c .purpo
 
 -- a broadcast that ended in a status
 abbrev ended : ℕ → Broadcast → Broadcast
-ended s c = record {
-  purpose = cond (eqb s old) 0 (c .purpose);
-  start = 0;
-  confirmed = c .confirmed;
-  waiting = c .waiting;
-  failed = c .failed;
-  retries = c .retries;
-}
+ended s c = repurposed c (cond (eqb s old) 0 (c .purpose)) 0
 
 pub row-closed : (w : Version) → Casting w → open? w ≡ false → Row (closed w)
 unfolding closed sidesNeeded setsApart retriesFit
@@ -188,17 +183,8 @@ row-closed w c o = go (closeTo (w .cast)) (at-closed (w .cast))
         turned true b q = ap not q
         turned false b q = ap not q
 
-    go : (s : ℕ) → AtClose s (eqb (w .cast .failed) 0) (eqb (w .cast .confirmed) 0) (eqb (w .cast .purpose) activate) → Row (record {
-      id = w .id;
-      status = s;
-      stamp = w .stamp;
-      live = among s (partialFailure ∷ active ∷ []);
-      new = w .new;
-      old = w .old;
-      canceller = w .canceller;
-      window = w .window;
-      cast = ended s (w .cast);
-    })
+    go : (s : ℕ) → AtClose s (eqb (w .cast .failed) 0) (eqb (w .cast .confirmed) 0) (eqb (w .cast .purpose) activate)
+        → Row (recast w s (w .stamp) (among s (partialFailure ∷ active ∷ [])) (w .new) (ended s (w .cast)))
     go s a = record {
       ranges = record {
         tn = c .ranges .tn;
@@ -288,14 +274,7 @@ row-retired stamp x time row l n =
         new = row .ranges .new;
         old = row .ranges .old;
         canceller = row .ranges .canceller;
-        cast = ranges-cast (record {
-          purpose = 0;
-          start = x .cast .start;
-          confirmed = x .cast .confirmed;
-          waiting = x .cast .waiting;
-          failed = x .cast .failed;
-          retries = x .cast .retries;
-        })
+        cast = ranges-cast (repurposed (x .cast) 0 (x .cast .start))
             (record { purpose = refl; start = r .start; confirmed = r .confirmed; waiting = r .waiting; failed = r .failed; retries = r .retries });
       };
       differ = row .differ;

@@ -4,20 +4,20 @@ use mathlib.Core.Path.{_≡_, refl, subst}
 use Prim.Native.Nat.{ℕ, _≤_, Ordering, Ordering·lt, Ordering·eq, Ordering·gt}
 use mathlib.Core.Bool.{Bool, true, false, cond, _&&_}
 use mathlib.Core.List.{List, [], _∷_, map}
-use mathlib.Core.Option.{Option, none as nothing, some}
+use mathlib.Core.Option.{some}
 use lib.Dec.{eqb, ltb}
 use lib.ListN.{length}
 use native.Mathlib.Omega.{arith}
 use borrow.Author.Tests.{eqb-true, eqb-false}
 use Rattle.model.specs.Basics.{keep, All, none, with}
-use Rattle.model.specs.Table.{order, Change, put, add, strike, nameOf, miss, hit, change, changes, find, notNamed, others, rowsOf, Rising}
+use Rattle.model.specs.Table.{order, Change, put, add, strike, nameOf, miss, hit, change, changes, find, notNamed, others, rowsOf}
 use Rattle.model.specs.Sound.{live, sends, count}
 use Rattle.model.specs.Given.{Result, refuse, accept}
 use Rattle.model.specs.Closing.{open?, closed, retired, retiring, retires, takesOver, settled, settles}
 use Rattle.model.specs.Sound.{activate}
-use Rattle.model.specs.Step.{after, whenFound}
+use Rattle.model.specs.Step.{after}
 use Rattle.model.proofs.Lists.{all-keep, all-map, all-both, all-cond, passed}
-use Rattle.model.proofs.TableLaws.{rising-changes, rising-part}
+use Rattle.model.proofs.TableLaws.{Rising, rising-changes, rising-part}
 use Rattle.model.proofs.Apart.{Rule, stepBy, Rows, Local, rows-rows, rows-out, rows-in, fine}
 use Rattle.model.proofs.SoundRows.{Row}
 use Rattle.model.proofs.SoundCasts.{Casting, row-open, row-closed, row-retired, at-closed}
@@ -27,7 +27,6 @@ use Rattle.model.specs.declared.Version.{Version}
 use Rattle.model.specs.declared.Event.{Event}
 use Rattle.model.specs.declared.Message.{Message}
 use Rattle.model.specs.declared.Outcome.{Outcome}
-use Rattle.model.specs.declared.Outcome.the-variants.{Unknown}
 
 -- what a change brings in is P
 abbrev pub Brings : (Version → Type 0) → Change → Type 0
@@ -107,14 +106,6 @@ module _ (line : ℕ → ℕ) (rule : Rule) (loc : Local line rule) (cap : ℕ)
 
 pub keeps-refuse : (o : Outcome) (r : List Version) → Line r → Keeps r (refuse o)
 keeps-refuse o r l = record { rows = none; line = l }
-
-pub keeps-if : (b : Bool) {r : List Version} {x y : Result} → (b ≡ true → Keeps r x) → (b ≡ false → Keeps r y) → Keeps r (cond b x y)
-keeps-if true f h = f refl
-keeps-if false f h = h refl
-
-pub keeps-found : (o : Option Version) {r : List Version} {f : Version → Result} → Line r → ((v : Version) → o ≡ some v → Keeps r (f v)) → Keeps r (whenFound o f)
-keeps-found nothing {r} l f = keeps-refuse Unknown r l
-keeps-found (some v) l f = f v refl
 
 -- ---- a broadcast that settles: w for the row v of the name k
 

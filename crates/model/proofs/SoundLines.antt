@@ -8,12 +8,12 @@ use mathlib.Core.Option.{none as nothing, some}
 use lib.ListN.{length}
 use native.Mathlib.Omega.{arith}
 use Rattle.model.specs.Basics.{keep, first, any, All, none, with}
-use Rattle.model.specs.Table.{order, put, add, strike, change, changes, find, notNamed, others, Under, Rising}
+use Rattle.model.specs.Table.{order, put, add, strike, change, changes, find, notNamed, others}
 use Rattle.model.specs.Sound.{count, live, sends, worked}
 use Rattle.model.specs.Closing.{retired}
 use Rattle.model.proofs.Lists.{clash, all-keep, all-both, head-of, passed}
 use Rattle.model.proofs.Order.{order-self, order-eq, order-gt, order-lt}
-use Rattle.model.proofs.TableLaws.{under-tail, find-put, find-other, part-out, rising-change}
+use Rattle.model.proofs.TableLaws.{Under, Rising, under-tail, find-put, find-other, part-out, rising-change}
 use Rattle.model.proofs.Replies.{out-named}
 use Rattle.model.specs.declared.Id.{Id}
 use Rattle.model.specs.declared.Version.{Version}

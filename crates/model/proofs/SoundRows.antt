@@ -7,6 +7,7 @@ use mathlib.Core.List.{List, [], _∷_}
 use lib.Dec.{eqb, leb, ltb}
 use lib.ListN.{getD}
 use borrow.Author.Tests.{eqb-true}
+use Rattle.model.specs.Versions.{restated}
 use Rattle.model.specs.Basics.{among, iff, implies, none, with}
 use Rattle.model.specs.Numbers.{tenDigits, isNumber, isTime, isProvider, isSet}
 use Rattle.model.specs.Sound.{pending, conflict, cancelPending, failure, partialFailure, active, old, canceled, isWorked, isSending, isPurposed, inRange, castInRange, retriesInRange, sidesDiffer, newWhole, oldWhole, oneCreated, sidesNeeded, causeFits, cancellerFits, setsApart, retriesFit, startFits, waitingFits, purposeFits, liveFits, liveConfirmed, soundVersion}
@@ -156,10 +157,6 @@ calm-worked s h = go (eqb s 0) refl (eqb s 1) refl (eqb s 2) refl
     go false p false q false r = clash (rw (p, q, r) at h)
 
 -- ---- other sides, another status, canceller and window, outside a broadcast
-
-abbrev pub restated : Version → ℕ → ℕ → NewSide → OldSide → ℕ → Bool → Version
-restated v status stamp new old canceller window =
-    record { id = v .id; status = status; stamp = stamp; live = v .live; new = new; old = old; canceller = canceller; window = window; cast = v .cast }
 
 -- what a status outside a broadcast asks of the sides and the canceller
 pub record Sided (s : ℕ) (n : NewSide) (o : OldSide) (c : ℕ) : Type 0 where

@@ -17,7 +17,8 @@ use Rattle.model.specs.Creates.{byNew, newIn, oldIn, newFrom, oldFrom, s
 use Rattle.model.specs.Changes.{newModified, oldModified, turned, cancelled, acknowledged, resolved, windowTurned, windowMarked}
 use Rattle.model.proofs.Lists.{clash, and-l, and-r, both-true, conj-at, back-equal}
 use Rattle.model.proofs.Formed.{Fields, fields, at-kind}
-use Rattle.model.proofs.SoundRows.{Row, Calm, calm0, calm1, calm2, calm8, calm-cond, calm-worked, Sided, restated, row-calm}
+use Rattle.model.specs.Versions.{restated}
+use Rattle.model.proofs.SoundRows.{Row, Calm, calm0, calm1, calm2, calm8, calm-cond, calm-worked, Sided, row-calm}
 use Rattle.model.proofs.SoundCasts.{no-canceller}
 use Rattle.model.proofs.SoundAnswers.{time-is}
 use Rattle.model.proofs.SoundOpened.{stands-new, stands-old, Allowed, status-of, stands-of}

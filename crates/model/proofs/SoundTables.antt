@@ -4,38 +4,37 @@ use mathlib.Core.Path.{_≡_, refl, subst}
 use Prim.Native.Nat.{ℕ, _+_, _≤_, _<_, Ordering, Ordering·lt, Ordering·eq, Ordering·gt}
 use mathlib.Core.Bool.{Bool, true, false, cond}
 use mathlib.Core.List.{List, [], _∷_}
-use mathlib.Core.Option.{Option, none as nothing, some}
-use lib.Dec.{eqb, leb, ltb}
+use mathlib.Core.Option.{none as nothing}
+use lib.Dec.{leb, ltb}
 use lib.ListN.{length, getD}
 use native.Mathlib.Omega.{arith}
 use borrow.Author.Tests.{leb-true, le-leb, ltb-true, not-false}
-use Rattle.model.specs.Basics.{all, among, All, none, with}
+use Rattle.model.specs.Basics.{all, All, none, with}
 use Rattle.model.specs.Books.{soundRetries}
-use Rattle.model.specs.Table.{order, sel, Change, put, Under, Rising, rowsOf, changes, adds}
+use Rattle.model.specs.Table.{order, sel, Change, rowsOf, changes}
 use Rattle.model.specs.Sound.{soundVersion, oneEach, above, rising, soundLines, soundTable, count, live, sends, worked}
-use Rattle.model.specs.Record.{isCreate, isAnswer, isBroadcast, wellFormed}
-use Rattle.model.specs.Outcomes.{isDone, judge, orderOf}
-use Rattle.model.specs.Given.{Given, Result, refuse, accept, found, rest, workedOne}
-use Rattle.model.specs.Creates.{creates, createOn}
-use Rattle.model.specs.Changes.{modifies, turns, cancelled, acknowledged, resolved, windowRuns, windowMarked, windowTurned, marks}
-use Rattle.model.specs.Tray.{windowTold}
-use Rattle.model.specs.Broadcast.{opened, broadcastOf, broadcasts}
+use Rattle.model.specs.Record.{isCreate, wellFormed}
+use Rattle.model.specs.Outcomes.{isDone, createOrder}
+use Rattle.model.specs.Given.{Given, Result, rest, workedOne}
+use Rattle.model.specs.Broadcast.{opened, broadcasts}
 use Rattle.model.specs.Selection.{selectedFor}
 use Rattle.model.specs.Answers.{answers, heard}
 use Rattle.model.specs.Refusals.{full, refuses}
-use Rattle.model.specs.Step.{whenFound, purges, manages, accepted, rule, Setting, line, after}
+use Rattle.model.specs.Step.{manages, accepted, judged, Setting, after}
 use Rattle.model.proofs.Lists.{clash, conj-at, conj-all, all-true, true-all, all-keep, all-both, head-of}
-use Rattle.model.proofs.TableLaws.{length-changes}
+use Rattle.model.proofs.TableLaws.{Under, Rising, adds, length-changes}
 use Rattle.model.proofs.Apart.{stepBy, rows-rows}
 use Rattle.model.proofs.Locality.{ruleIn, local, adds-settles}
 use Rattle.model.proofs.SoundRows.{Row, row-of, of-row}
 use Rattle.model.proofs.SoundLines.{Line}
 use Rattle.model.proofs.SoundLaws.{Sound, sound-after}
-use Rattle.model.proofs.SoundStep.{create-passed, keeps-rule}
+use Rattle.model.proofs.Ways.{by-test, by-way, by-worked, by-kind, by-order}
+use Rattle.model.proofs.Outcomes.{refusal-passed}
+use Rattle.model.proofs.SoundStep.{keeps-rule}
 use Rattle.model.specs.declared.Id.{Id}
 use Rattle.model.specs.declared.Event.{Event}
 use Rattle.model.specs.declared.Version.{Version}
-use Rattle.model.specs.declared.Outcome.the-variants.{Malformed}
+use Rattle.model.specs.declared.Outcome.the-variants.{Full}
 
 -- ---- rising
 
@@ -139,62 +138,40 @@ says-table line rows t s =
 abbrev room : Bool → ℕ
 room b = cond b 1 0
 
-adds-manages : (G : Given) (v : Version) → adds (manages (G .books) (G .event) v (rest G) .does) ≡ 0
-unfolding manages windowRuns broadcasts
-adds-manages G v =
-    go (among (G .event .kind) (3 ∷ 4 ∷ [])) (eqb (G .event .kind) 6) (eqb (G .event .kind) 7) (eqb (G .event .kind) 8) (eqb (G .event .kind) 13) (marks v) (isBroadcast (G .event .kind))
-  where
-    e : Event
-    e = G .event
+adds-manages : (g : Given) (v : Version) → adds (manages (g .books) (g .event) v (rest g) .does) ≡ 0
+unfolding broadcasts
+adds-manages g v = by-way (λ (x : Result). adds (x .does) ≡ 0) (g .books) (g .event) v (rest g) (record {
+  modify = λ _. refl;
+  cancel = λ _. refl;
+  acknowledge = λ _. refl;
+  resolve = λ _. refl;
+  mark = λ _ _. refl;
+  turn = λ _ _. refl;
+  broadcast = λ _. omega (arith, adds-settles (λ (n : ℕ). n) 0 (opened (selectedFor (g .books) (v .id .tn)) (g .event) v) (rest g));
+  purge = refl;
+})
 
-    go : (a b c d f m x : Bool) → adds (cond a (modifies e v) (cond b (turns (cancelled e v)) (cond c (turns (acknowledged e v)) (cond d (turns (resolved e v)) (cond f
-        (cond m (accept (windowTold (windowMarked e v)) (put (windowMarked e v) ∷ [])) (turns (windowTurned e v)))
-        (cond x (broadcastOf (opened (selectedFor (G .books) (v .id .tn)) e v) (rest G)) (purges v)))))) .does) ≡ 0
-    go true b c d f m x = refl
-    go false true c d f m x = refl
-    go false false true d f m x = refl
-    go false false false true f m x = refl
-    go false false false false true true x = refl
-    go false false false false true false x = refl
-    go false false false false false m true = omega (arith, adds-settles (λ (n : ℕ). n) 0 (opened (selectedFor (G .books) (v .id .tn)) e v) (rest G))
-    go false false false false false m false = refl
-
-adds-answers : (G : Given) (v : Version) → adds (answers (G .most) (G .event) v (rest G) .does) ≡ 0
+adds-answers : (g : Given) (v : Version) → adds (answers (g .most) (g .event) v (rest g) .does) ≡ 0
 unfolding answers
-adds-answers G v = omega (arith, adds-settles (λ (n : ℕ). n) 0 (heard (G .most) (G .event) v) (rest G))
+adds-answers g v = omega (arith, adds-settles (λ (n : ℕ). n) 0 (heard (g .most) (g .event) v) (rest g))
 
-adds-found : (o : Option Version) (f : Version → Result) → ((v : Version) → adds (f v .does) ≡ 0) → adds (whenFound o f .does) ≡ 0
-adds-found nothing f h = refl
-adds-found (some v) f h = h v
-
-pub adds-room : (G : Given) → isDone (judge (refuses G) (orderOf (G .event .kind))) ≡ true → adds (accepted G .does) ≤ room (G .free)
-unfolding accepted creates full
-adds-room G d = go (isCreate (G .event .kind)) refl (isAnswer (G .event .kind)) refl
+adds-room : (g : Given) → isDone (judged g) ≡ true → adds (accepted g .does) ≤ room (g .free)
+unfolding full
+adds-room g d = by-kind (λ (x : Result). adds (x .does) ≤ room (g .free)) g (record {
+  create = λ c. by-worked (λ (x : Result). adds (x .does) ≤ room (g .free)) (g .event) (g .rows) (λ q. rw (free c q) (omega arith))
+      (λ v _. omega arith);
+  answer = λ _ _ v _. omega (arith, adds-answers g v);
+  manage = λ _ _ v _. omega (arith, adds-manages g v);
+  unknown = omega arith;
+})
   where
-    fresh : isCreate (G .event .kind) ≡ true → (o : Option Version) → workedOne (G .rows) ≡ o → adds (createOn (G .event) (G .rows) o .does) ≤ room (G .free)
-    fresh k (some v) q = omega arith
-    fresh k nothing q =
-        let f : full G ≡ false = create-passed (refuses G) (rw k at d) .free in
-        let y : G .free ≡ true = not-false (G .free) (rw q at f) in
-        rw y (omega arith)
-
-    go : (a : Bool) → isCreate (G .event .kind) ≡ a → (b : Bool) → isAnswer (G .event .kind) ≡ b → adds (accepted G .does) ≤ room (G .free)
-    go true p b q = rw p (fresh p (workedOne (G .rows)) refl)
-    go false p true q = rw (p, q) (omega (arith, adds-found (found G) (λ (v : Version). answers (G .most) (G .event) v (rest G)) (adds-answers G)))
-    go false p false q = rw (p, q) (omega (arith, adds-found (found G) (λ (v : Version). manages (G .books) (G .event) v (rest G)) (adds-manages G)))
+    free : isCreate (g .event .kind) ≡ true → workedOne (g .rows) ≡ nothing → g .free ≡ true
+    free c q = not-false (g .free) (rw q at (refusal-passed (refuses g) createOrder Full refl refl (rw c at d)))
 
 adds-rule : (s : Setting) (free : Bool) (e : Event) (r : List Version) → adds (ruleIn s free e r .does) ≤ room free
-unfolding rule
-adds-rule s free e r = go (wellFormed e) refl (isDone (judge (refuses G) (orderOf (e .kind)))) refl
-  where
-    G : Given
-    G = record { books = s .books; most = s .most; free = free; event = e; rows = r }
-
-    go : (a : Bool) → wellFormed e ≡ a → (b : Bool) → isDone (judge (refuses G) (orderOf (e .kind))) ≡ b
-        → adds (cond a (cond b (accepted G) (refuse (judge (refuses G) (orderOf (e .kind))))) (refuse Malformed) .does) ≤ room free
-    go true p true q = adds-room G q
-    go true p false q = omega arith
-    go false p b q = omega arith
+adds-rule s free e r =
+    by-test (λ (x : Result). adds (x .does) ≤ room free) (wellFormed e)
+    (λ _. by-order (λ (x : Result). adds (x .does) ≤ room free) _ (λ d. adds-room _ d) (λ _. omega arith)) (λ _. omega arith)
 
 -- ---- every step
 

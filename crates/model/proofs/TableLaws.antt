@@ -2,17 +2,38 @@
 -- the table that a test on names cuts out sees only the changes of names that pass the test.
 -- Assumes nothing.
 use mathlib.Core.Path.{_≡_, refl, sym, ap, _∙_, subst}
-use Prim.Native.Nat.{suc, _+_, _≤_, Ordering, Ordering·lt, Ordering·eq, Ordering·gt}
+use Prim.Native.Nat.{ℕ, suc, _+_, _≤_, Ordering, Ordering·lt, Ordering·eq, Ordering·gt}
 use mathlib.Core.Bool.{Bool, true, false}
 use mathlib.Core.Option.{some}
 use mathlib.Core.List.{List, [], _∷_}
 use lib.ListN.{length}
 use native.Mathlib.Omega.{arith}
 use Rattle.model.specs.Basics.{keep}
-use Rattle.model.specs.Table.{order, Change, put, add, strike, nameOf, miss, hit, fresh, adds, change, changes, find, Under, Rising}
+use Rattle.model.specs.Table.{order, Change, put, add, strike, nameOf, miss, hit, change, changes, find}
 use Rattle.model.proofs.Order.{order-self, order-eq, order-gt, order-lt, order-trans}
 use Rattle.model.specs.declared.Id.{Id}
 use Rattle.model.specs.declared.Version.{Version}
+
+-- ---- the words of these laws
+
+-- strictly rising
+abbrev pub Under : Id → List Version → Type 0
+Under k [] = Unit {0}
+Under k (x ∷ xs) = order k (x .id) ≡ Ordering·lt
+
+abbrev pub Rising : List Version → Type 0
+Rising [] = Unit {0}
+Rising (x ∷ xs) = Under (x .id) xs × Rising xs
+
+-- how many rows changes may add
+abbrev pub fresh : Change → ℕ
+fresh (put v) = 0
+fresh (add v) = 1
+fresh (strike k) = 0
+
+abbrev pub adds : List Change → ℕ
+adds [] = 0
+adds (c ∷ cs) = fresh c + adds cs
 
 -- ---- what stands under a table
 

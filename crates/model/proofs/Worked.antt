@@ -4,7 +4,7 @@
 use mathlib.Core.Path.{_≡_, refl}
 use Prim.Native.Nat.{ℕ}
 use native.Mathlib.Omega.{arith}
-use mathlib.Core.Bool.{Bool, true, false}
+use mathlib.Core.Bool.{true, false}
 use mathlib.Core.List.{List, [], _∷_, _++_, map}
 use Rattle.systems.specs.Set.{member, maskOf, meet, count as size}
 use Rattle.model.specs.Answers.{again, moved, heard, askedAgain, answers as answered}
@@ -25,7 +25,6 @@ use Rattle.model.specs.Exchange.{Exchangeable, answers, lines, May, reor
 use Rattle.model.specs.Step.{line, manages, accepted, rule, unsound, step}
 use Rattle.model.specs.Table.{order}
 use Rattle.model.specs.Tray.{members}
-use Rattle.model.specs.declared.Broadcast.{Broadcast}
 use Rattle.model.specs.declared.Event.{Event}
 use Rattle.model.specs.declared.Version.{Version}
 use Rattle.model.proofs.Stages.{Stage, Example, passes, allPass}

@@ -7,6 +7,7 @@ use lib.Dec.{eqb, ltb}
 use Rattle.systems.specs.Set.{member}
 use Rattle.model.specs.Retries.{used, withUsed}
 use Rattle.model.specs.Table.{put}
+use Rattle.model.specs.Versions.{recast}
 use Rattle.model.specs.Given.{Result, accept}
 use Rattle.model.specs.Tray.{downloadTo}
 use Rattle.model.specs.Closing.{settled, settles, settlingTold}
@@ -46,17 +47,7 @@ moved most e c = moves (again most e c) (succeeds e) (answering e) (used (c .ret
 
 -- 11 and 12 raise the stamp to their time if later. [R3]
 unfoldable pub heard : ℕ → Event → Version → Version
-heard most e v = record {
-  id = v .id;
-  status = v .status;
-  stamp = max (v .stamp) (e .time);
-  live = v .live;
-  new = v .new;
-  old = v .old;
-  canceller = v .canceller;
-  window = v .window;
-  cast = moved most e (v .cast);
-}
+heard most e v = recast v (v .status) (max (v .stamp) (e .time)) (v .live) (v .new) (moved most e (v .cast))
 
 -- the download again [Y5]
 unfoldable pub askedAgain : ℕ → Event → Version → List Message

@@ -9,6 +9,7 @@ use Rattle.model.specs.Books.{Books}
 use Rattle.model.specs.Selection.{selectedFor}
 use Rattle.model.specs.Retries.{noRetries}
 use Rattle.model.specs.Table.{put}
+use Rattle.model.specs.Versions.{recast, rerouted}
 use Rattle.model.specs.Sound.{sending, activate, modify, disconnect}
 use Rattle.model.specs.Given.{Result, accept}
 use Rattle.model.specs.Tray.{downloads}
@@ -30,30 +31,19 @@ askedFor selected e v = cond (resends e) (meet (v .cast .failed) selected) selec
 
 -- 9 replaces the LRN at once. [D1]
 abbrev pub newFor : Event → Version → NewSide
-newFor e v =
-    cond (eqb (e .kind) 9) (record { provider = v .new .provider; created = v .new .created; lrn = e .lrn; due = v .new .due }) (v .new)
+newFor e v = cond (eqb (e .kind) 9) (rerouted (v .new) (e .lrn) (v .new .due)) (v .new)
 
 -- The status becomes sending, the start the event's time; 5, 9, 10 clear confirmed and failed, 14 keeps confirmed, and who is not asked leaves the
 -- failed set; retries start at 0. [D1, D2, D3, D4]
 unfoldable pub opened : ℕ → Event → Version → Version
-opened selected e v = record {
-  id = v .id;
-  status = sending;
-  stamp = e .time;
-  live = v .live;
-  new = newFor e v;
-  old = v .old;
-  canceller = v .canceller;
-  window = v .window;
-  cast = record {
-    purpose = purposeFor e v;
-    start = e .time;
-    confirmed = cond (resends e) (v .cast .confirmed) 0;
-    waiting = askedFor selected e v;
-    failed = 0;
-    retries = noRetries;
-  };
-}
+opened selected e v = recast v sending (e .time) (v .live) (newFor e v) (record {
+  purpose = purposeFor e v;
+  start = e .time;
+  confirmed = cond (resends e) (v .cast .confirmed) 0;
+  waiting = askedFor selected e v;
+  failed = 0;
+  retries = noRetries;
+})
 
 -- With nobody to ask it closes at once. [D4]
 abbrev pub broadcastOf : Version → List Version → Result

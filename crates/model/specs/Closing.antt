@@ -6,6 +6,7 @@ use mathlib.Core.List.{List, [], _∷_, map}
 use lib.Dec.{eqb}
 use Rattle.model.specs.Basics.{keep, among}
 use Rattle.model.specs.Table.{Change, put}
+use Rattle.model.specs.Versions.{recast, repurposed}
 use Rattle.model.specs.Sound.{failure, partialFailure, active, old, activate, disconnect, live}
 use Rattle.model.specs.Tray.{noLrn, toSoas, toldAtClose}
 use Rattle.model.specs.Tray as tray
@@ -17,58 +18,28 @@ use Rattle.model.specs.declared.Message.{Message}
 abbrev pub open? : Version → Bool
 open? v = not (eqb (v .cast .waiting) 0)
 
--- For failed empty, both non-empty, only confirmed empty: activate gives active, partial-failure, failed; modify always active; disconnect old,
--- old, active. [W3]
+-- one of three: for failed empty, for both non-empty, for only confirmed empty [W3]
+abbrev pub ofThree : Bool → Bool → ℕ → ℕ → ℕ → ℕ
+ofThree noneFailed noneConfirmed confirmed both failed = cond noneFailed confirmed (cond noneConfirmed failed both)
+
+-- Activate gives active, partial-failure, failed; modify always active; disconnect old, old, active. [W3]
 abbrev pub closeBy : Bool → Bool → Bool → Bool → ℕ
 closeBy noneFailed noneConfirmed act dis =
-    cond noneFailed (cond dis old active)
-    (cond noneConfirmed (cond act failure active)
-    (cond act partialFailure (cond dis old active)))
+    cond act (ofThree noneFailed noneConfirmed active partialFailure failure)
+    (cond dis (ofThree noneFailed noneConfirmed old old active) active)
 
 unfoldable pub closeTo : Broadcast → ℕ
 closeTo c = closeBy (eqb (c .failed) 0) (eqb (c .confirmed) 0) (eqb (c .purpose) activate) (eqb (c .purpose) disconnect)
 
 -- The start is cleared; turning old clears live and purpose; the rest stays. [W3, U2]
 unfoldable pub closed : Version → Version
-closed v = record {
-  id = v .id;
-  status = closeTo (v .cast);
-  stamp = v .stamp;
-  live = among (closeTo (v .cast)) (partialFailure ∷ active ∷ []);
-  new = v .new;
-  old = v .old;
-  canceller = v .canceller;
-  window = v .window;
-  cast = record {
-    purpose = cond (eqb (closeTo (v .cast)) old) 0 (v .cast .purpose);
-    start = 0;
-    confirmed = v .cast .confirmed;
-    waiting = v .cast .waiting;
-    failed = v .cast .failed;
-    retries = v .cast .retries;
-  };
-}
+closed v =
+    recast v (closeTo (v .cast)) (v .stamp) (among (closeTo (v .cast)) (partialFailure ∷ active ∷ [])) (v .new)
+    (repurposed (v .cast) (cond (eqb (closeTo (v .cast)) old) 0 (v .cast .purpose)) 0)
 
 -- Any other live version becomes old with the closing version's stamp. [W4]
 unfoldable pub retired : ℕ → Version → Version
-retired stamp v = record {
-  id = v .id;
-  status = old;
-  stamp = stamp;
-  live = false;
-  new = v .new;
-  old = v .old;
-  canceller = v .canceller;
-  window = v .window;
-  cast = record {
-    purpose = 0;
-    start = v .cast .start;
-    confirmed = v .cast .confirmed;
-    waiting = v .cast .waiting;
-    failed = v .cast .failed;
-    retries = v .cast .retries;
-  };
-}
+retired stamp v = recast v old stamp false (v .new) (repurposed (v .cast) 0 (v .cast .start))
 
 -- On the first two of activate. [W4]
 abbrev pub takesOver : Version → Bool

@@ -8,8 +8,10 @@ use lib.Dec.{eqb}
 use Rattle.model.specs.Numbers.{codeOf}
 use Rattle.model.specs.Books.{Books, ownerOf}
 use Rattle.model.specs.Table.{put, add}
+use Rattle.model.specs.Versions.{restated}
 use Rattle.model.specs.Retries.{noRetries}
 use Rattle.model.specs.Sound.{pending, conflict, cancelPending, no}
+use Rattle.model.specs.Standing.{nobody}
 use Rattle.model.specs.Given.{Result, accept, newest, liveOne, workedOne}
 use Rattle.model.specs.Tray.{noLrn, createdTold, restatedTold}
 use Rattle.model.specs.declared.NewSide.{NewSide}
@@ -75,7 +77,7 @@ freshNumbered e n = record {
   live = false;
   new = newJoined e (newAbsent (newIn e));
   old = oldJoined e (oldAbsent (oldIn e));
-  canceller = 0;
+  canceller = nobody;
   window = false;
   cast = noBroadcast;
 }
@@ -93,17 +95,9 @@ fits e v =
     && not (cond (byNew e) (v .new .created) (v .old .created))
 
 unfoldable pub concurred : Event → Version → Version
-concurred e v = record {
-  id = v .id;
-  status = statusBy (oldJoined e (v .old)) (v .status);
-  stamp = e .time;
-  live = v .live;
-  new = newJoined e (v .new);
-  old = oldJoined e (v .old);
-  canceller = v .canceller;
-  window = v .window;
-  cast = v .cast;
-}
+concurred e v =
+    restated v (statusBy (oldJoined e (v .old)) (v .status)) (e .time) (newJoined e (v .new)) (oldJoined e (v .old)) (v .canceller)
+    (v .window)
 
 -- ---- what a create does
 

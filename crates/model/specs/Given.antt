@@ -1,4 +1,5 @@
 -- What a rule sees, and what it answers.
+-- Word endings, in all rules: modified is the version after, modifies what the rule answers or changes, ..Told the messages.
 -- Assumes nothing.
 use Prim.Native.Nat.{ℕ}
 use mathlib.Core.Bool.{Bool, cond}

@@ -3,6 +3,7 @@ pub mod Numbers
 pub mod Books
 pub mod Table
 pub mod Retries
+pub mod Versions
 pub mod Sound
 pub mod Record
 pub mod Outcomes

@@ -1,8 +1,9 @@
 -- Outcome numbers, and the orders in which refusals are judged.
 -- Assumes nothing.
 use Prim.Native.Nat.{ℕ}
-use mathlib.Core.Bool.{Bool, true, false, cond}
+use mathlib.Core.Bool.{Bool, cond}
 use mathlib.Core.List.{List, [], _∷_}
+use lib.Dec.{eqb}
 use Rattle.model.specs.Record.{isCreate, isAnswer}
 use Rattle.model.specs.declared.Outcome.{Outcome}
 use Rattle.model.specs.declared.Outcome.the-variants.{Done, Unsound, Malformed, Absent, Unlisted, Unknown, Standless, Misplaced, Early, Unfit, Busy, Unawaited, NotCurrent, Full, Exhausted}
@@ -26,21 +27,7 @@ numberOf Full = 13
 numberOf Exhausted = 14
 
 abbrev pub isDone : Outcome → Bool
-isDone Done = true
-isDone Unsound = false
-isDone Malformed = false
-isDone Absent = false
-isDone Unlisted = false
-isDone Unknown = false
-isDone Standless = false
-isDone Misplaced = false
-isDone Early = false
-isDone Unfit = false
-isDone Busy = false
-isDone Unawaited = false
-isDone NotCurrent = false
-isDone Full = false
-isDone Exhausted = false
+isDone o = eqb (numberOf o) 0
 
 -- Order, creates: 1, 2, 3, 4, 10, 8, 12, 9, 14, 13. [O6] Outcomes 1 and 2 stand in front of every order.
 abbrev pub createOrder : List Outcome

@@ -18,6 +18,10 @@ isCreate k = among k (1 ∷ 2 ∷ [])
 abbrev pub isAnswer : ℕ → Bool
 isAnswer k = among k (11 ∷ 12 ∷ [])
 
+-- 3 modify new, 4 modify old
+abbrev pub isModify : ℕ → Bool
+isModify k = among k (3 ∷ 4 ∷ [])
+
 -- 5 activate, 9 modify active, 10 disconnect, 14 resend
 abbrev pub isBroadcast : ℕ → Bool
 isBroadcast k = among k (5 ∷ 9 ∷ 10 ∷ 14 ∷ [])

@@ -1,6 +1,6 @@
 -- Standing and status: the grid, and the finer conditions.
 -- Assumes nothing.
-use Prim.Native.Nat.{ℕ, _+_, _-_}
+use Prim.Native.Nat.{ℕ, suc, _+_, _-_}
 use mathlib.Core.Bool.{Bool, cond, not, _&&_, _||_}
 use mathlib.Core.List.{[], _∷_}
 use lib.Dec.{eqb, ltb, leb}
@@ -9,20 +9,43 @@ use Rattle.model.specs.Sound.{pending, conflict, cancelPending, failure,
 use Rattle.model.specs.declared.Event.{Event}
 use Rattle.model.specs.declared.Version.{Version}
 
--- A side has standing if it has created. 0 the new side, 1 the old side, 2 the NPAC, 3 any other sender. [G1]
+-- ---- who sends: the new side, the old side, the NPAC, or anybody else
+
+abbrev pub asNew : ℕ
+asNew = 0
+
+abbrev pub asOld : ℕ
+asOld = 1
+
+abbrev pub asNpac : ℕ
+asNpac = 2
+
+abbrev pub asOther : ℕ
+asOther = 3
+
+-- A side has standing if it has created. [G1]
 unfoldable pub standingOf : Event → Version → ℕ
 standingOf e v =
-    cond (eqb (e .sender) 0) 2
-    (cond (v .new .created && eqb (e .sender) (v .new .provider)) 0
-    (cond (v .old .created && eqb (e .sender) (v .old .provider)) 1 3))
+    cond (eqb (e .sender) 0) asNpac
+    (cond (v .new .created && eqb (e .sender) (v .new .provider)) asNew
+    (cond (v .old .created && eqb (e .sender) (v .old .provider)) asOld asOther))
+
+-- Who cancelled: nobody, or a side by its standing, the new side 1 and the old side 2. [K1]
+abbrev pub nobody : ℕ
+nobody = 0
+
+abbrev pub cancellerAs : ℕ → ℕ
+cancellerAs standing = suc standing
+
+-- ---- the grid
 
 -- Kinds 3, 5, 9, 10: new; 4: old; 6, 7, 8: either; 13, 14, 15: NPAC. [G1]
 abbrev pub standsFor : ℕ → ℕ → Bool
 standsFor k w =
-    cond (among k (3 ∷ 5 ∷ 9 ∷ 10 ∷ [])) (eqb w 0)
-    (cond (eqb k 4) (eqb w 1)
-    (cond (among k (6 ∷ 7 ∷ 8 ∷ [])) (leb w 1)
-    (eqb w 2)))
+    cond (among k (3 ∷ 5 ∷ 9 ∷ 10 ∷ [])) (eqb w asNew)
+    (cond (eqb k 4) (eqb w asOld)
+    (cond (among k (6 ∷ 7 ∷ 8 ∷ [])) (leb w asOld)
+    (eqb w asNpac)))
 
 -- Statuses: 3, 4, 6 in pending or conflict; 5 pending; 7 cancel-pending; 8 conflict; 9, 10 active; 13 pending or cancel-pending; 14 failed,
 -- partial-failure or active; 15 old or canceled. [G2]

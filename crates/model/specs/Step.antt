@@ -6,11 +6,10 @@ use mathlib.Core.Option.{Option, none, some}
 use mathlib.Core.List.{List, [], _∷_, _++_}
 use lib.Dec.{eqb, ltb, leb}
 use lib.ListN.{length}
-use Rattle.model.specs.Basics.{among}
 use Rattle.model.specs.Books.{Books, soundBooks, soundRetries, lineOf}
 use Rattle.model.specs.Table.{strike, rowsOf, changes}
 use Rattle.model.specs.Sound.{soundTable}
-use Rattle.model.specs.Record.{isCreate, isAnswer, isBroadcast, wellFormed}
+use Rattle.model.specs.Record.{isCreate, isModify, isAnswer, isBroadcast, wellFormed}
 use Rattle.model.specs.Outcomes.{orderOf, judge}
 use Rattle.model.specs.Given.{Given, Result, refuse, accept, unless, found, rest}
 use Rattle.model.specs.Creates.{creates}
@@ -35,7 +34,7 @@ purges v = accept [] (strike (v .id) ∷ [])
 -- kinds 3 to 10 and 13 to 15
 unfoldable pub manages : Books → Event → Version → List Version → Result
 manages bk e v others =
-    cond (among (e .kind) (3 ∷ 4 ∷ [])) (modifies e v)
+    cond (isModify (e .kind)) (modifies e v)
     (cond (eqb (e .kind) 6) (turns (cancelled e v))
     (cond (eqb (e .kind) 7) (turns (acknowledged e v))
     (cond (eqb (e .kind) 8) (turns (resolved e v))
@@ -55,8 +54,11 @@ accepted g =
 
 -- ---- the rules: refused in the order of its kind, or done
 
+abbrev pub judged : Given → Outcome
+judged g = judge (refuses g) (orderOf (g .event .kind))
+
 unfoldable pub rule : Given → Result
-rule g = unless (judge (refuses g) (orderOf (g .event .kind))) (accepted g)
+rule g = unless (judged g) (accepted g)
 
 -- ---- one step
 

@@ -1,7 +1,6 @@
 -- The version table: a list of versions, strictly rising by TN and then version number; what an event may change in it. [T2]
 -- Assumes nothing.
-use mathlib.Core.Path.{_≡_}
-use Prim.Native.Nat.{ℕ, _+_, compare, Ordering, Ordering·lt, Ordering·eq, Ordering·gt}
+use Prim.Native.Nat.{ℕ, compare, Ordering, Ordering·lt, Ordering·eq, Ordering·gt}
 use mathlib.Core.Bool.{Bool, true, false}
 use mathlib.Core.Option.{Option, none, some}
 use mathlib.Core.List.{List, [], _∷_}
@@ -24,15 +23,6 @@ abbrev pub sel {ℓ} : {A : Type ℓ} → Ordering → A → A → A → A
 sel Ordering·lt a b c = a
 sel Ordering·eq a b c = b
 sel Ordering·gt a b c = c
-
--- strictly rising
-abbrev pub Under : Id → List Version → Type 0
-Under k [] = Unit {0}
-Under k (x ∷ xs) = order k (x .id) ≡ Ordering·lt
-
-abbrev pub Rising : List Version → Type 0
-Rising [] = Unit {0}
-Rising (x ∷ xs) = Under (x .id) xs × Rising xs
 
 -- ---- the rows of one number, and the version of a name
 
@@ -86,13 +76,3 @@ change c (x ∷ xs) = sel (order (nameOf c) (x .id)) (miss c (x ∷ xs)) (hit c 
 abbrev pub changes : List Change → List Version → List Version
 changes [] t = t
 changes (c ∷ cs) t = changes cs (change c t)
-
--- how many rows changes may add
-abbrev pub fresh : Change → ℕ
-fresh (put v) = 0
-fresh (add v) = 1
-fresh (strike k) = 0
-
-abbrev pub adds : List Change → ℕ
-adds [] = 0
-adds (c ∷ cs) = fresh c + adds cs

@@ -33,8 +33,9 @@ use Rattle.table.specs.Survey.{Surveyed, Stands, theOne, versionAt}
 use Rattle.table.specs.declared.survey.Facts.{Facts}
 use Rattle.table.specs.declared.survey.Seen.{Seen}
 use Rattle.table.specs.declared.survey.Seen.the-variants.{Nobody, One}
-use Rattle.judge.specs.Judged.{createTests, createFor, unknownBy, answerFor, otherFor}
-use Rattle.judge.proofs.Judging.{zero-done, other-refused, passed, create-judged, unknown-judged, answer-judged, other-judged}
+use Rattle.judge.specs.Judged.{testOf, createTests, createFor, unknownBy, answerFor, otherFor}
+use Rattle.model.proofs.Outcomes.{zero-done, other-refused, refusal-passed}
+use Rattle.judge.proofs.Judging.{create-judged, unknown-judged, answer-judged, other-judged}
 use Rattle.verdict.specs.Verdict.{resultOf}
 use Rattle.verdict.specs.declared.Verdict.{Verdict}
 use Rattle.rules.specs.Rules.{Holds, Sits, Says, Settles, Manages, Creates, givenBy, Facing, Decides, refusedBy}
@@ -75,11 +76,11 @@ module _ (e : Event) (k : Known) (f : Facts) (o : Outcome) (c : isCreate (e .kin
     pub create-room : theOne (f .worked) ≡ none → f .all .newest < 65535
     unfolding createFor
     create-room w =
-        leb-false 65535 (f .all .newest) (rw w at (passed createOrder (createTests e (k .absent) (k .owner) f (k .free)) refl (ap isDone (sym q) ∙ d) Exhausted))
+        leb-false 65535 (f .all .newest) (rw w at (refusal-passed (testOf createOrder (createTests e (k .absent) (k .owner) f (k .free))) createOrder Exhausted refl refl (ap isDone (sym q) ∙ d)))
 
     create-free : theOne (f .worked) ≡ none → k .free ≡ true
     unfolding createFor
-    create-free w = not-false (k .free) (rw w at (passed createOrder (createTests e (k .absent) (k .owner) f (k .free)) refl (ap isDone (sym q) ∙ d) Full))
+    create-free w = not-false (k .free) (rw w at (refusal-passed (testOf createOrder (createTests e (k .absent) (k .owner) f (k .free))) createOrder Full refl refl (ap isDone (sym q) ∙ d)))
 
     pub create-says : (v : Verdict) → Creates e (f .all .newest) (f .worked) v → Decides e k f v
     unfolding accepted
@@ -180,7 +181,7 @@ pub answer-waits : (e : Event) (absent : Bool) (v : Version) (o : Outcome) → w
     → Waits (v .cast) (answering e)
 answer-waits e absent v o h a r q d =
     let p = answering-named e h a in
-    waits-of v (answering e) r (p .0) (p .1) (not-false (awaited e v) (passed answerOrder (absent ∷ false ∷ not (awaited e v) ∷ beforeStart e v ∷ []) refl (ap isDone (sym q) ∙ d) Unawaited))
+    waits-of v (answering e) r (p .0) (p .1) (not-false (awaited e v) (refusal-passed (testOf answerOrder (absent ∷ false ∷ not (awaited e v) ∷ beforeStart e v ∷ [])) answerOrder Unawaited refl refl (ap isDone (sym q) ∙ d)))
 
 -- ---- the grid has a place for the kind
 

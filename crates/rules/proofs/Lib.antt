@@ -1,3 +1,2 @@
-pub mod Names
 pub mod Ruled
 pub mod Deciding

@@ -8,11 +8,11 @@ use mathlib.Core.List.{List, [], _∷_, _++_, map, append-nil}
 use lib.Dec.{eqb}
 use native.Mathlib.Omega.{arith}
 use borrow.Author.Tests.{eqb-true, not-false, ne-eqb}
-use Rattle.model.specs.Basics.{among, keep}
+use Rattle.model.specs.Basics.{keep}
 use Rattle.model.specs.Books.{Books}
 use Rattle.model.specs.Table.{Change, put, add, find}
 use Rattle.model.specs.Sound.{live}
-use Rattle.model.specs.Record.{isBroadcast}
+use Rattle.model.specs.Record.{isModify, isBroadcast}
 use Rattle.model.specs.Given.{Result, accept, newest}
 use Rattle.model.specs.Tray.{noLrn, toSoas, sidesTold, members, downloads, downloadTo, restatedTold, windowTold, createdTold}
 use Rattle.model.specs.Changes.{modified, turns, cancelled, acknowledged, resolved, marks, windowMarked, windowTurned, windowRuns}
@@ -22,7 +22,9 @@ use Rattle.model.specs.Answers.{answering, again, heard, askedAgain, answers}
 use Rattle.model.specs.Creates.{creates, createOn, freshNumbered, freshVersion, concurred}
 use Rattle.model.specs.Step.{manages}
 use Rattle.model.proofs.Effects.{no-members}
-use Rattle.model.proofs.Replies.{settled-id, heard-id}
+use Rattle.model.proofs.Lists.{clash}
+use Rattle.model.proofs.Replies.{settled-id}
+use Rattle.model.proofs.Stays.{concurred-stays, modified-stays, cancelled-stays, acknowledged-stays, resolved-stays, window-marked-stays, window-turned-stays, opened-stays, heard-stays}
 use Rattle.table.specs.Survey.{theOne, listOf, Stands}
 use Rattle.table.specs.declared.survey.Seen.{Seen}
 use Rattle.table.specs.declared.survey.Seen.the-variants.{Nobody, One}
@@ -35,8 +37,6 @@ use Rattle.verdict.specs.declared.Mail.{Mail}
 use Rattle.verdict.specs.declared.Mail.the-variants as mail
 use Rattle.verdict.specs.declared.Verdict.{Verdict}
 use Rattle.rules.specs.Rules.{Holds, Says, Puts, Settles, Adds, replacedBy, Settled, Manages, Creates}
-use Rattle.rules.proofs.Names.{modified-id, cancelled-id, acknowledged-id, resolved-id, marked-id, turned-id, opened-id, concurred-id}
-use Rattle.rules.proofs.Names.{cast-way}
 use Rattle.model.specs.declared.Id.{Id}
 use Rattle.model.specs.declared.Event.{Event}
 use Rattle.model.specs.declared.Version.{Version}
@@ -74,11 +74,11 @@ module _ (e : Event) (v w : Version) (i : ℕ) (r : Verdict) where
   pub window-marks : marks v ≡ true → w ≡ windowMarked e v → Puts (accept (windowTold w) (put w ∷ [])) i (w .id) r → Puts (windowRuns e v) i (v .id) r
   unfolding windowRuns
   window-marks m q =
-      rw m (puts-as (ap (λ (x : Version). accept (windowTold x) (put x ∷ [])) q) (ap (λ (x : Version). x .id) q ∙ marked-id e v))
+      rw m (puts-as (ap (λ (x : Version). accept (windowTold x) (put x ∷ [])) q) (ap (λ (x : Version). x .id) q ∙ window-marked-stays e v .name))
 
   pub window-turns : marks v ≡ false → w ≡ windowTurned e v → Puts (turns w) i (w .id) r → Puts (windowRuns e v) i (v .id) r
   unfolding windowRuns
-  window-turns m q = rw m (puts-as (ap turns q) (ap (λ (x : Version). x .id) q ∙ turned-id e v))
+  window-turns m q = rw m (puts-as (ap turns q) (ap (λ (x : Version). x .id) q ∙ window-turned-stays e v .name))
 
 -- ---- a broadcast that settles
 module _ (w : Version) (lives : Seen) where
@@ -136,6 +136,23 @@ module _ (i : ℕ) (w : Version) (lives : Seen) (rows : Rows) (s : Settled i w l
       record { is = rw o (ap₂ accept (e ∙ ap (λ (ms : List Message). ms ++ closingTold w) (sym none)) (g .0)); sits = g .1 }
 
 -- ---- kinds 3 to 10 and 13 to 15, by their way
+
+-- a kind that begins a broadcast has no other
+cast-way : (bk : Books) (e : Event) (v : Version) (rest : List Version) → isBroadcast (e .kind) ≡ true → manages bk e v rest ≡ broadcasts bk e v rest
+unfolding manages
+cast-way bk e v rest h = go (eqb (e .kind) 5) refl (eqb (e .kind) 9) refl (eqb (e .kind) 10) refl (eqb (e .kind) 14) refl
+  where
+    at : (n : ℕ) → eqb (e .kind) n ≡ true → e .kind ≡ n
+    at n q = eqb-true (e .kind) n q
+
+    go : (a : Bool) → eqb (e .kind) 5 ≡ a → (b : Bool) → eqb (e .kind) 9 ≡ b → (c : Bool) → eqb (e .kind) 10 ≡ c → (d : Bool) → eqb (e .kind) 14 ≡ d
+        → manages bk e v rest ≡ broadcasts bk e v rest
+    go true p b q c u d w = rw (at 5 p)
+    go false p true q c u d w = rw (at 9 q)
+    go false p false q true u d w = rw (at 10 u)
+    go false p false q false u true w = rw (at 14 w)
+    go false p false q false u false w = clash (rw (p, q, u, w) at h)
+
 module _ (s i : ℕ) (e : Event) (v w : Version) (lives : Seen) (r : Verdict) where
   -- a way that changes one row
   by-row : (f : Version → Result) (x : Version) → ((bk : Books) (rest : List Version) → manages bk e v rest ≡ f x) → x .id ≡ v .id → w ≡ x → Puts (f w) i (w .id) r
@@ -143,38 +160,35 @@ module _ (s i : ℕ) (e : Event) (v w : Version) (lives : Seen) (r : Verdict) wh
   by-row f x way n q p bk pick t rest free h l =
       puts-as (ap f q ∙ sym (way bk rest)) (ap (λ (y : Version). y .id) q ∙ n) p t free h
 
-  pub managed-modify : among (e .kind) (3 ∷ 4 ∷ []) ≡ true → w ≡ modified e v → Puts (accept (restatedTold v w) (put w ∷ [])) i (w .id) r → Manages s i e v lives r
+  pub managed-modify : isModify (e .kind) ≡ true → w ≡ modified e v → Puts (accept (restatedTold v w) (put w ∷ [])) i (w .id) r → Manages s i e v lives r
   unfolding manages
-  managed-modify k = by-row (λ (x : Version). accept (restatedTold v x) (put x ∷ [])) (modified e v) (λ bk rest. rw k) (modified-id e v)
+  managed-modify k = by-row (λ (x : Version). accept (restatedTold v x) (put x ∷ [])) (modified e v) (λ bk rest. rw k) (modified-stays e v .name)
 
   pub managed-cancel : e .kind ≡ 6 → w ≡ cancelled e v → Puts (turns w) i (w .id) r → Manages s i e v lives r
   unfolding manages
-  managed-cancel k = by-row turns (cancelled e v) (λ bk rest. rw k) (cancelled-id e v)
+  managed-cancel k = by-row turns (cancelled e v) (λ bk rest. rw k) (cancelled-stays e v .name)
 
   pub managed-acknowledge : e .kind ≡ 7 → w ≡ acknowledged e v → Puts (turns w) i (w .id) r → Manages s i e v lives r
   unfolding manages
-  managed-acknowledge k = by-row turns (acknowledged e v) (λ bk rest. rw k) (acknowledged-id e v)
+  managed-acknowledge k = by-row turns (acknowledged e v) (λ bk rest. rw k) (acknowledged-stays e v .name)
 
   pub managed-resolve : e .kind ≡ 8 → w ≡ resolved e v → Puts (turns w) i (w .id) r → Manages s i e v lives r
   unfolding manages
-  managed-resolve k = by-row turns (resolved e v) (λ bk rest. rw k) (resolved-id e v)
+  managed-resolve k = by-row turns (resolved e v) (λ bk rest. rw k) (resolved-stays e v .name)
 
   pub managed-cast : isBroadcast (e .kind) ≡ true → w ≡ opened s e v → Settles (broadcastOf w) i (w .id) lives r → Manages s i e v lives r
   unfolding broadcasts
   managed-cast k q p bk pick t rest free h l =
-      let n : w .id ≡ v .id = ap (λ (x : Version). x .id) q ∙ opened-id s e v in
+      let n : w .id ≡ v .id = ap (λ (x : Version). x .id) q ∙ opened-stays s e v .name in
       subst (λ (z : Result). Says z t free r)
-      (ap (λ (x : Version). broadcastOf x rest) (q ∙ ap (λ (m : ℕ). opened m e v) (pick k)) ∙ sym (way bk rest))
+      (ap (λ (x : Version). broadcastOf x rest) (q ∙ ap (λ (m : ℕ). opened m e v) (pick k)) ∙ sym (cast-way bk e v rest k))
       (p t rest free (h .0, h .1 ∙ sym n) l)
-    where
-      way : (bk : Books) (rest : List Version) → manages bk e v rest ≡ broadcasts bk e v rest
-      way bk rest = cast-way bk e v rest k
 
 pub managed-window : (s i : ℕ) (e : Event) (v : Version) (lives : Seen) (r : Verdict) → e .kind ≡ 13 → Puts (windowRuns e v) i (v .id) r → Manages s i e v lives r
 unfolding manages
 managed-window s i e v lives r k p bk pick t rest free h l = puts-as {y = manages bk e v rest} (rw k) refl p t free h
 
-pub managed-purge : (s i : ℕ) (e : Event) (v : Version) (lives : Seen) → isBroadcast (e .kind) ≡ false → among (e .kind) (3 ∷ 4 ∷ []) ≡ false → (e .kind ≡ 6 → ⊥) → (e .kind ≡ 7 → ⊥)
+pub managed-purge : (s i : ℕ) (e : Event) (v : Version) (lives : Seen) → isBroadcast (e .kind) ≡ false → isModify (e .kind) ≡ false → (e .kind ≡ 6 → ⊥) → (e .kind ≡ 7 → ⊥)
     → (e .kind ≡ 8 → ⊥) → (e .kind ≡ 13 → ⊥) → Manages s i e v lives (record { out = Done; rows = Strike i (v .id); mail = mail.Silence })
 unfolding manages
 managed-purge s i e v lives b m p q u w bk pick t rest free h l =
@@ -187,7 +201,7 @@ pub answered-says : (most i : ℕ) (e : Event) (v w : Version) (lives : Seen) (r
     → Settles (answers most e v) i (v .id) lives (record { out = Done; rows = rows; mail = mail })
 unfolding answers askedAgain
 answered-says most i e v w lives rows mail a p ea ep ew s m t rest free h l =
-    let g = s t rest free (h .0, h .1 ∙ sym (ap (λ (x : Version). x .id) ew ∙ heard-id most e v)) l in
+    let g = s t rest free (h .0, h .1 ∙ sym (ap (λ (x : Version). x .id) ew ∙ heard-stays most e v .name)) l in
     record {
       is = ap₂ accept (m ∙ ap₂ (λ (x y : List Message). x ++ y) (ap₂ (λ (b : Bool) (n : ℕ). cond b (downloadTo v n ∷ []) []) ea ep) (ap settlingTold ew))
           (g .0 ∙ ap (λ (x : Version). put (settled x) ∷ settles x rest) ew);
@@ -209,7 +223,7 @@ module _ (e : Event) (last : ℕ) (worked : Seen) (w : Version) (r : Verdict) wh
   unfolding creates
   created-joins i v q ew p t rows free n o st fr =
       let b = subst (Stands t) q st in
-      puts-as (ap (λ (x : Version). accept (restatedTold v x) (put x ∷ [])) ew ∙ ap (createOn e rows) (sym (ap theOne q) ∙ o)) (ap (λ (x : Version). x .id) ew ∙ concurred-id e v) p t free
+      puts-as (ap (λ (x : Version). accept (restatedTold v x) (put x ∷ [])) ew ∙ ap (createOn e rows) (sym (ap theOne q) ∙ o)) (ap (λ (x : Version). x .id) ew ∙ concurred-stays e v .name) p t free
       (b .0, ap (λ (x : Version). x .id) (b .1))
 
 -- ---- the purpose of what is opened

@@ -14,7 +14,7 @@ ghost use mathlib.Core.Bool.{cond};
 ghost use mathlib.Core.Option.{none};
 ghost use mathlib.Core.List.{[], _∷_, _++_};
 ghost use Prim.Native.Nat.{_+_, _≤_, _<_};
-ghost use Rattle.model.specs.Basics.{among};
+ghost use Rattle.model.specs.Record.{isModify};
 ghost use Rattle.model.specs.Table.{put, add};
 ghost use Rattle.model.specs.Given.{accept};
 ghost use Rattle.model.specs.Tray.{restatedTold, windowTold, createdTold, downloadTo};
@@ -153,7 +153,7 @@ fn plain(selected: u64, i: usize, e: Event, v: Version, lives: Seen) -> Verdict
 }
 
 fn is_modify(kind: u8) -> bool
-    ensures { λ r. ⌜ r ≡ among kind (3 ∷ 4 ∷ []) ⌝ }
+    ensures { λ r. ⌜ r ≡ isModify kind ⌝ }
 {
     (kind == 3) | (kind == 4)
 }

@@ -12,9 +12,9 @@ use lib.Seq.{slice}
 use Rattle.model.specs.declared.Id.{Id}
 use Rattle.model.specs.declared.Version.{Version}
 use Rattle.model.specs.Basics.{keep, first}
-use Rattle.model.specs.Table.{order, sel, Under, Rising, inLine, rowsOf, find, notNamed, others}
+use Rattle.model.specs.Table.{order, sel, inLine, rowsOf, find, notNamed, others}
 use Rattle.model.proofs.Order.{order-self, order-eq}
-use Rattle.model.proofs.TableLaws.{under-tail, rising-part}
+use Rattle.model.proofs.TableLaws.{Under, Rising, under-tail, rising-part}
 use Rattle.row.specs.Layout.{keyOf}
 use Rattle.model.proofs.Lists.{and-l, and-r}
 use Rattle.table.specs.Find.{past, lowerOf, keyFor, keys, placeIn}
