@@ -11,13 +11,12 @@ ghost use mathlib.Core.List.{[], _∷_};
 ghost use Prim.Native.Nat.{_<_};
 ghost use lib.Dec.{eqb, ltb, leb};
 ghost use Rattle.model.specs.Basics.{among, holds, isNone};
-ghost use Rattle.model.specs.Outcomes.{createOrder, answerOrder, otherOrder};
 ghost use Rattle.model.specs.Standing.{isGridKind, unready, lacksStanding, wrongStatus};
 ghost use Rattle.model.specs.Creates.{currentOr, fits};
 ghost use Rattle.model.specs.Answers.{awaited};
 ghost use Rattle.model.specs.Refusals.{beforeStart, beforeDue, idle};
 ghost use Rattle.table.specs.Survey.{theOne};
-ghost use Rattle.judge.specs.Judged.{missingIn, absentIn, firstOf, createFor, unknownBy, answerFor, busyFor, otherFor};
+ghost use Rattle.judge.specs.Judged.{missingIn, absentIn, createFor, unknownBy, answerFor, busyFor, otherFor};
 
 // ---- sender and other
 
@@ -34,46 +33,15 @@ pub fn absent(m: Marks, e: Event) -> bool
     missing(m, e.sender) | missing(m, e.other)
 }
 
-// ---- creates
+// ---- an order: each refusal where its test holds, else what comes after it
 
-fn create_by(
-    absent: bool,
-    unlisted: bool,
-    busy: bool,
-    early: bool,
-    not_current: bool,
-    unfit: bool,
-    exhausted: bool,
-    full: bool,
-) -> Outcome
-    ensures { λ r. ⌜ r ≡ firstOf createOrder (absent ∷ unlisted ∷ busy ∷ early ∷ «not_current» ∷ unfit ∷ exhausted ∷ full ∷ []) ⌝ }
+fn first(test: bool, refusal: Outcome, after: Outcome) -> Outcome
+    ensures { λ r. ⌜ r ≡ cond test refusal after ⌝ }
 {
-    if absent {
-        return Outcome::Absent;
-    }
-    if unlisted {
-        return Outcome::Unlisted;
-    }
-    if busy {
-        return Outcome::Busy;
-    }
-    if early {
-        return Outcome::Early;
-    }
-    if not_current {
-        return Outcome::NotCurrent;
-    }
-    if unfit {
-        return Outcome::Unfit;
-    }
-    if exhausted {
-        return Outcome::Exhausted;
-    }
-    if full {
-        return Outcome::Full;
-    }
-    Outcome::Done
+    if test { refusal } else { after }
 }
+
+// ---- creates
 
 // The live version's new provider, else the code's owner.
 fn current(owner: u8, live: Seen) -> u8
@@ -113,16 +81,17 @@ pub fn create(e: Event, absent: bool, owner: u8, f: Facts, free: bool) -> Outcom
     let old = sides::old_in(e);
     let misfit = unfit(e, worked);
     let fresh = nobody(worked);
-    create_by(
-        absent,
-        owner == 0,
-        all.sends,
-        e.time < all.stamp,
-        old != holder,
-        misfit,
-        fresh & (65535 <= all.newest),
-        fresh & !free,
-    )
+    let early = e.time < all.stamp;
+    let exhausted = fresh & (65535 <= all.newest);
+    let full = fresh & !free;
+    let o = first(full, Outcome::Full, Outcome::Done);
+    let o = first(exhausted, Outcome::Exhausted, o);
+    let o = first(misfit, Outcome::Unfit, o);
+    let o = first(old != holder, Outcome::NotCurrent, o);
+    let o = first(early, Outcome::Early, o);
+    let o = first(all.sends, Outcome::Busy, o);
+    let o = first(owner == 0, Outcome::Unlisted, o);
+    first(absent, Outcome::Absent, o)
 }
 
 // ---- kinds 11 and 12
@@ -130,65 +99,20 @@ pub fn create(e: Event, absent: bool, owner: u8, f: Facts, free: bool) -> Outcom
 pub fn unknown(absent: bool) -> Outcome
     ensures { λ r. ⌜ r ≡ unknownBy absent ⌝ }
 {
-    if absent {
-        Outcome::Absent
-    } else {
-        Outcome::Unknown
-    }
-}
-
-fn answer_by(absent: bool, unawaited: bool, early: bool) -> Outcome
-    ensures { λ r. ⌜ r ≡ firstOf answerOrder (absent ∷ false ∷ unawaited ∷ early ∷ []) ⌝ }
-{
-    if absent {
-        return Outcome::Absent;
-    }
-    if unawaited {
-        return Outcome::Unawaited;
-    }
-    if early { Outcome::Early } else { Outcome::Done }
+    first(absent, Outcome::Absent, Outcome::Unknown)
 }
 
 pub fn answer(e: Event, absent: bool, v: Version) -> Outcome
     ensures { λ r. ⌜ r ≡ answerFor e absent v ⌝ }
 {
     let waits = answers::awaited(e, v);
-    answer_by(absent, !waits, e.time < v.cast.start)
+    let early = e.time < v.cast.start;
+    let o = first(early, Outcome::Early, Outcome::Done);
+    let o = first(!waits, Outcome::Unawaited, o);
+    first(absent, Outcome::Absent, o)
 }
 
 // ---- all others
-
-fn other_by(
-    absent: bool,
-    standless: bool,
-    misplaced: bool,
-    busy: bool,
-    early: bool,
-    idle: bool,
-) -> Outcome
-    ensures { λ r. ⌜ r ≡ firstOf otherOrder (absent ∷ false ∷ standless ∷ misplaced ∷ busy ∷ early ∷ idle ∷ []) ⌝ }
-{
-    if absent {
-        return Outcome::Absent;
-    }
-    if standless {
-        return Outcome::Standless;
-    }
-    if misplaced {
-        return Outcome::Misplaced;
-    }
-    if busy {
-        return Outcome::Busy;
-    }
-    if early {
-        return Outcome::Early;
-    }
-    if idle {
-        Outcome::Unawaited
-    } else {
-        Outcome::Done
-    }
-}
 
 // The finer conditions that add 7.
 fn unready(e: Event, v: Version) -> bool
@@ -234,12 +158,11 @@ pub fn other(e: Event, absent: bool, f: Facts, v: Version) -> Outcome
     let finer = unready(e, v);
     let taken = busy(e, f, v);
     let spent = idle(e, v);
-    other_by(
-        absent,
-        entry == 6,
-        (entry == 7) | finer,
-        taken,
-        (e.time < all.stamp) | ((e.kind == 5) & (e.time < v.new.due)),
-        spent,
-    )
+    let early = (e.time < all.stamp) | ((e.kind == 5) & (e.time < v.new.due));
+    let o = first(spent, Outcome::Unawaited, Outcome::Done);
+    let o = first(early, Outcome::Early, o);
+    let o = first(taken, Outcome::Busy, o);
+    let o = first((entry == 7) | finer, Outcome::Misplaced, o);
+    let o = first(entry == 6, Outcome::Standless, o);
+    first(absent, Outcome::Absent, o)
 }

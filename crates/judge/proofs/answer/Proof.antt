@@ -5,11 +5,18 @@ use Rattle.judge.proofs.answer.Tie as tie
 awaited-requires : tie.Need-awaited-requires
 awaited-requires c κs = search needs
 
-answer-by-requires : tie.Need-answer-by-requires
-answer-by-requires c κs = search needs
+first-requires : tie.Need-first-requires
+first-requires c κs = search needs
+
+first-requires-2 : tie.Need-first-requires-2
+first-requires-2 c κs = search needs
+
+first-requires-3 : tie.Need-first-requires-3
+first-requires-3 c κs = search needs
 
 returns : tie.Need-returns
-returns c = rw (← c .before .before .before .awaited .ensures) (c .answer-by .ensures)
+returns c = rw (c .first3 .ensures, c .before .first2 .ensures, c .before .before .first .ensures, c .before .before .before .before .before .awaited .ensures)
 
 pub answer-spec : {M : Type 1} → statement M
-answer-spec = tie.close (tie.spec awaited-requires answer-by-requires returns)
+answer-spec =
+    tie.close (tie.spec awaited-requires first-requires first-requires-2 first-requires-3 returns)

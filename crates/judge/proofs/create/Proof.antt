@@ -15,12 +15,33 @@ unfit-requires c κs = search needs
 nobody-requires : tie.Need-nobody-requires
 nobody-requires c κs = search needs
 
-create-by-requires : tie.Need-create-by-requires
-create-by-requires c κs = search needs
+first-requires : tie.Need-first-requires
+first-requires c κs = search needs
+
+first-requires-2 : tie.Need-first-requires-2
+first-requires-2 c κs = search needs
+
+first-requires-3 : tie.Need-first-requires-3
+first-requires-3 c κs = search needs
+
+first-requires-4 : tie.Need-first-requires-4
+first-requires-4 c κs = search needs
+
+first-requires-5 : tie.Need-first-requires-5
+first-requires-5 c κs = search needs
+
+first-requires-6 : tie.Need-first-requires-6
+first-requires-6 c κs = search needs
+
+first-requires-7 : tie.Need-first-requires-7
+first-requires-7 c κs = search needs
+
+first-requires-8 : tie.Need-first-requires-8
+first-requires-8 c κs = search needs
 
 returns : tie.Need-returns
 unfolding createFor
-returns c = rw (← c .before .before .before .before .nobody .ensures, ← c .before .before .before .before .before .unfit .ensures, ← c .before .before .before .before .before .before .before .current .ensures, ← c .before .before .before .before .before .before .old-in .ensures) (c .create-by .ensures)
+returns c = rw (c .first8 .ensures, c .before .first7 .ensures, c .before .before .first6 .ensures, c .before .before .before .first5 .ensures, c .before .before .before .before .first4 .ensures, c .before .before .before .before .before .first3 .ensures, c .before .before .before .before .before .before .first2 .ensures, c .before .before .before .before .before .before .before .first .ensures, c .before .before .before .before .before .before .before .before .before .before .before .nobody .ensures, c .before .before .before .before .before .before .before .before .before .before .before .before .unfit .ensures, c .before .before .before .before .before .before .before .before .before .before .before .before .before .old-in .ensures, c .before .before .before .before .before .before .before .before .before .before .before .before .before .before .current .ensures)
 
 pub create-spec : {M : Type 1} → statement M
 create-spec =
@@ -30,5 +51,12 @@ create-spec =
     old-in-requires
     unfit-requires
     nobody-requires
-    create-by-requires
+    first-requires
+    first-requires-2
+    first-requires-3
+    first-requires-4
+    first-requires-5
+    first-requires-6
+    first-requires-7
+    first-requires-8
     returns)

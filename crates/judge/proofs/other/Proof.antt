@@ -18,12 +18,27 @@ busy-requires c κs = search needs
 idle-requires : tie.Need-idle-requires
 idle-requires c κs = search needs
 
-other-by-requires : tie.Need-other-by-requires
-other-by-requires c κs = search needs
+first-requires : tie.Need-first-requires
+first-requires c κs = search needs
+
+first-requires-2 : tie.Need-first-requires-2
+first-requires-2 c κs = search needs
+
+first-requires-3 : tie.Need-first-requires-3
+first-requires-3 c κs = search needs
+
+first-requires-4 : tie.Need-first-requires-4
+first-requires-4 c κs = search needs
+
+first-requires-5 : tie.Need-first-requires-5
+first-requires-5 c κs = search needs
+
+first-requires-6 : tie.Need-first-requires-6
+first-requires-6 c κs = search needs
 
 returns : tie.Need-returns
 unfolding otherFor
-returns c = rw (← c .before .before .before .before .before .before .idle .ensures, ← c .before .before .before .before .before .before .before .busy .ensures, ← c .before .before .before .before .before .before .before .before .unready .ensures, ← c .before .before .before .before .before .before .before .before .before .before .standing-of .ensures .0, ← c .before .before .before .before .before .before .before .before .before .grid .ensures) (c .other-by .ensures)
+returns c = rw (c .first6 .ensures, c .before .first5 .ensures, c .before .before .first4 .ensures, c .before .before .before .first3 .ensures, c .before .before .before .before .first2 .ensures, c .before .before .before .before .before .first .ensures, c .before .before .before .before .before .before .before .before .before .before .before .idle .ensures, c .before .before .before .before .before .before .before .before .before .before .before .before .busy .ensures, c .before .before .before .before .before .before .before .before .before .before .before .before .before .unready .ensures, c .before .before .before .before .before .before .before .before .before .before .before .before .before .before .grid .ensures, c .before .before .before .before .before .before .before .before .before .before .before .before .before .before .before .standing-of .ensures .0)
 
 pub other-spec : {M : Type 1} → statement M
 other-spec =
@@ -34,5 +49,10 @@ other-spec =
     unready-requires
     busy-requires
     idle-requires
-    other-by-requires
+    first-requires
+    first-requires-2
+    first-requires-3
+    first-requires-4
+    first-requires-5
+    first-requires-6
     returns)
