@@ -29,6 +29,7 @@ use Rattle.table.specs.Survey.{theOne, listOf, Stands}
 use Rattle.table.specs.declared.survey.Seen.{Seen}
 use Rattle.table.specs.declared.survey.Seen.the-variants.{Nobody, One}
 use Rattle.verdict.specs.Verdict.{runOf, messagesOf}
+use Rattle.verdict.proofs.Laws.{downloads-are}
 use Rattle.verdict.specs.declared.Rows.{Rows}
 use Rattle.verdict.specs.declared.Rows.the-variants.{Put, PutTwo, Strike}
 use Rattle.verdict.specs.declared.To.the-variants.{Locals}
@@ -123,7 +124,7 @@ module _ (i : ℕ) (w : Version) (lives : Seen) (rows : Rows) (s : Settled i w l
   unfolding settlingTold
   cast-asks run o e t rest free h l =
       let g = s t rest free h l in
-      record { is = rw o (ap₂ accept (ap runOf e ∙ sym (append-nil (downloads w))) (g .0)); sits = g .1 }
+      record { is = rw o (ap₂ accept (ap runOf e ∙ downloads-are w 0 ∙ sym (append-nil (downloads w))) (g .0)); sits = g .1 }
 
   -- nobody is asked, and it closes at once
   pub cast-closes : (run : Run) → open? w ≡ false → runOf run ≡ closingTold w

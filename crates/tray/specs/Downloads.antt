@@ -13,9 +13,8 @@ use lib.ListN.{length, length-map}
 use borrow.Author.Tests.{eqb-true, eqb-false}
 use Rattle.systems.specs.Set.{member, count}
 use Rattle.model.specs.Basics.{All, with}
-use Rattle.model.specs.Tray.{membersTo, members, downloadTo, downloads}
+use Rattle.model.specs.Tray.{membersTo, members}
 use Rattle.model.specs.declared.Message.{Message}
-use Rattle.model.specs.declared.Version.{Version}
 use Rattle.verdict.specs.Verdict.{toLocal, toLocals}
 use Rattle.tray.specs.Tray.{Small, placesIn, putMessage, putAll}
 
@@ -145,7 +144,3 @@ skip-step t place p m s h e = ap (λ (ps : List ℕ). putAll t place (toLocals m
 pub put-end : (t : List ℕ) (place p : ℕ) (m : Message) (s : ℕ) → 63 ≤ p → putAll t place (toLocals m (above s p)) ≡ t
 unfolding putAll
 put-end t place p m s h = ap (λ (ps : List ℕ). putAll t place (toLocals m ps)) (above-end s p h)
-
--- the model's downloads of a version are the messages so put, whatever provider the message to copy names
-pub downloads-are : (w : Version) (p : ℕ) → toLocals (downloadTo w p) (members (w .cast .waiting)) ≡ downloads w
-downloads-are w p = refl

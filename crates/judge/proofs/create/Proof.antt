@@ -41,7 +41,22 @@ first-requires-8 c κs = search needs
 
 returns : tie.Need-returns
 unfolding createFor
-returns c = rw (c .first8 .ensures, c .before .first7 .ensures, c .before .before .first6 .ensures, c .before .before .before .first5 .ensures, c .before .before .before .before .first4 .ensures, c .before .before .before .before .before .first3 .ensures, c .before .before .before .before .before .before .first2 .ensures, c .before .before .before .before .before .before .before .first .ensures, c .before .before .before .before .before .before .before .before .before .before .before .nobody .ensures, c .before .before .before .before .before .before .before .before .before .before .before .before .unfit .ensures, c .before .before .before .before .before .before .before .before .before .before .before .before .before .old-in .ensures, c .before .before .before .before .before .before .before .before .before .before .before .before .before .before .current .ensures)
+returns c =
+    let c1 = c .before in
+    let c2 = c1 .before in
+    let c3 = c2 .before in
+    let c4 = c3 .before in
+    let c5 = c4 .before in
+    let c6 = c5 .before in
+    let c7 = c6 .before in
+    let c8 = c7 .before in
+    let c9 = c8 .before in
+    let c10 = c9 .before in
+    let c11 = c10 .before in
+    let c12 = c11 .before in
+    let c13 = c12 .before in
+    let c14 = c13 .before in
+    rw (c .first8 .ensures, c1 .first7 .ensures, c2 .first6 .ensures, c3 .first5 .ensures, c4 .first4 .ensures, c5 .first3 .ensures, c6 .first2 .ensures, c7 .first .ensures, c11 .nobody .ensures, c12 .unfit .ensures, c13 .old-in .ensures, c14 .current .ensures)
 
 pub create-spec : {M : Type 1} → statement M
 create-spec =

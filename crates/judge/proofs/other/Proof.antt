@@ -38,7 +38,23 @@ first-requires-6 c κs = search needs
 
 returns : tie.Need-returns
 unfolding otherFor
-returns c = rw (c .first6 .ensures, c .before .first5 .ensures, c .before .before .first4 .ensures, c .before .before .before .first3 .ensures, c .before .before .before .before .first2 .ensures, c .before .before .before .before .before .first .ensures, c .before .before .before .before .before .before .before .before .before .before .before .idle .ensures, c .before .before .before .before .before .before .before .before .before .before .before .before .busy .ensures, c .before .before .before .before .before .before .before .before .before .before .before .before .before .unready .ensures, c .before .before .before .before .before .before .before .before .before .before .before .before .before .before .grid .ensures, c .before .before .before .before .before .before .before .before .before .before .before .before .before .before .before .standing-of .ensures .0)
+returns c =
+    let c1 = c .before in
+    let c2 = c1 .before in
+    let c3 = c2 .before in
+    let c4 = c3 .before in
+    let c5 = c4 .before in
+    let c6 = c5 .before in
+    let c7 = c6 .before in
+    let c8 = c7 .before in
+    let c9 = c8 .before in
+    let c10 = c9 .before in
+    let c11 = c10 .before in
+    let c12 = c11 .before in
+    let c13 = c12 .before in
+    let c14 = c13 .before in
+    let c15 = c14 .before in
+    rw (c .first6 .ensures, c1 .first5 .ensures, c2 .first4 .ensures, c3 .first3 .ensures, c4 .first2 .ensures, c5 .first .ensures, c11 .idle .ensures, c12 .busy .ensures, c13 .unready .ensures, c14 .grid .ensures, c15 .standing-of .ensures .0)
 
 pub other-spec : {M : Type 1} → statement M
 other-spec =

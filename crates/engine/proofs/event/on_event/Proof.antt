@@ -1,22 +1,45 @@
+-- `engine::event::on_event` meets its contract: s is the start, f the survey, k what the books say, d the verdict.
+-- Assumes nothing.
 use Rattle.engine.proofs.Deciding.{tn-small, decide-asks, may-apply, may-deliver, did}
 use borrow.Author.Needs.{needs}
 use Rattle.engine.proofs.event.on_event.Statement.{statement}
 use Rattle.engine.proofs.event.on_event.Tie as tie
 
 number-requires : tie.Need-number-requires
-number-requires c κs = let s = c .before .before .before .before .before in (s .pre .0, tn-small (s .args .e) (s .pre .1 .0 .formed))
+number-requires c κs =
+    let s = c .before .before .before .before .before in
+    (s .pre .0, tn-small (s .args .e) (s .pre .1 .0 .formed))
 
 known-requires : tie.Need-known-requires
 known-requires c κs = search needs
 
 decide-requires : tie.Need-decide-requires
-decide-requires c κs = let s = c .before .before .before .before .before .before .before in decide-asks (s .args .marks) _ (s .args .most) _ _ (s .args .e) _ (s .pre .0) (s .pre .1 .0) (s .pre .1 .1) (c .before .number .result) (c .known .result) (c .before .number .ensures) (c .known .ensures)
+decide-requires c κs =
+    let k = c in
+    let f = k .before in
+    let s = f .before .before .before .before .before .before in
+    decide-asks (s .args .marks) _ (s .args .most) _ _ (s .args .e) _ (s .pre .0) (s .pre .1 .0) (s .pre .1 .1)
+    (f .number .result) (k .known .result) (f .number .ensures) (k .known .ensures)
 
 apply-requires : tie.Need-apply-requires
-apply-requires c κs = let s = c .before .before .before .before .before .before .before .before .before in (s .pre .0, may-apply (s .args .marks) _ (s .args .most) _ _ (s .args .e) _ (s .pre .0) (s .pre .1 .0) (s .pre .1 .1) (c .before .before .before .number .result) (c .before .before .known .result) (c .before .before .before .number .ensures) (c .before .before .known .ensures) (c .before .decide .result) (c .before .decide .ensures))
+apply-requires c κs =
+    let d = c .before in
+    let k = d .before in
+    let f = k .before in
+    let s = f .before .before .before .before .before .before in (
+      s .pre .0,
+      may-apply (s .args .marks) _ (s .args .most) _ _ (s .args .e) _ (s .pre .0) (s .pre .1 .0) (s .pre .1 .1)
+          (f .number .result) (k .known .result) (f .number .ensures) (k .known .ensures) (d .decide .result) (d .decide .ensures),
+    )
 
 deliver-requires : tie.Need-deliver-requires
-deliver-requires c κs = let s = c .before .before .before .before .before .before .before .before .before .before .before .before .before in may-deliver (s .args .marks) _ (s .args .most) _ _ (s .args .e) _ (s .pre .0) (s .pre .1 .0) (s .pre .1 .1) (c .before .before .before .before .before .before .before .number .result) (c .before .before .before .before .before .before .known .result) (c .before .before .before .before .before .before .before .number .ensures) (c .before .before .before .before .before .before .known .ensures) (c .before .before .before .before .before .decide .result) (c .before .before .before .before .before .decide .ensures)
+deliver-requires c κs =
+    let d = c .before .before .before .before .before in
+    let k = d .before in
+    let f = k .before in
+    let s = f .before .before .before .before .before .before in
+    may-deliver (s .args .marks) _ (s .args .most) _ _ (s .args .e) _ (s .pre .0) (s .pre .1 .0) (s .pre .1 .1)
+    (f .number .result) (k .known .result) (f .number .ensures) (k .known .ensures) (d .decide .result) (d .decide .ensures)
 
 answered-requires : tie.Need-answered-requires
 answered-requires c κs = search needs
@@ -28,7 +51,16 @@ same-length-2 : tie.Need-same-length-2
 same-length-2 c = search needs
 
 returns : tie.Need-returns
-returns c = let s = c .before .before .before .before .before .before .before .before .before .before .before .before .before .before .before .before .before in did (s .args .marks) _ (s .args .most) _ _ (s .args .e) _ (s .pre .0) (s .pre .1 .0) (s .pre .1 .1) (c .before .before .before .before .before .before .before .before .before .before .before .number .result) (c .before .before .before .before .before .before .before .before .before .before .known .result) (c .before .before .before .before .before .before .before .before .before .before .before .number .ensures) (c .before .before .before .before .before .before .before .before .before .before .known .ensures) (c .before .before .before .before .before .before .before .before .before .decide .result) (c .before .before .before .before .before .before .before .before .before .decide .ensures) _ _ _ _ _ (c .before .before .before .before .before .before .before .apply .ensures) (c .before .before .before .deliver .ensures) (c .answered .ensures)
+returns c =
+    let y = c .before .before .before in
+    let a = y .before .before .before .before in
+    let d = a .before .before in
+    let k = d .before in
+    let f = k .before in
+    let s = f .before .before .before .before .before .before in
+    did (s .args .marks) _ (s .args .most) _ _ (s .args .e) _ (s .pre .0) (s .pre .1 .0) (s .pre .1 .1)
+    (f .number .result) (k .known .result) (f .number .ensures) (k .known .ensures) (d .decide .result) (d .decide .ensures) _ _ _ _ _
+    (a .apply .ensures) (y .deliver .ensures) (c .answered .ensures)
 
 pub on-event-spec : {M : Type 1} → statement M
 on-event-spec =
