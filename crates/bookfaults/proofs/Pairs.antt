@@ -10,8 +10,8 @@ use Rattle.model.specs.Basics.{all}
 use Rattle.model.specs.Books.{unsplit}
 use Rattle.model.specs.Numbers.{isCode}
 use Rattle.books.specs.Packed.{splitOf}
-use Rattle.audit.specs.Scan.{chain}
-use Rattle.audit.specs.Sound.{apartFrom, goodSplit, splitTest}
+use Rattle.soundbooks.specs.Scan.{chain}
+use Rattle.soundbooks.specs.Sound.{apartFrom, goodSplit, splitTest}
 use Rattle.faults.specs.Faults.{nearest}
 use Rattle.bookfaults.specs.Clauses.{meets, metBy}
 

@@ -22,8 +22,8 @@ use Rattle.providers.specs.Providers.{fine, soundList, listed, entryOf}
 use Rattle.providers.specs.Laws.{listed-says, listed-sound}
 use Rattle.books.specs.Packed.{bookBytes, rowPlaces, splitPlaces, headOf, codePlace, filterPlace, splitPlace, usedFrom, freeFrom, packedFrom, soundBytes}
 use Rattle.entries.specs.Good.{goodCode, goodFilter, goodRow}
-use Rattle.audit.specs.Scan.{chain, scan, scan-is}
-use Rattle.audit.specs.Sound.{rowTest, splitTest, sound-parts}
+use Rattle.soundbooks.specs.Scan.{chain, scan, scan-is}
+use Rattle.soundbooks.specs.Sound.{rowTest, splitTest, sound-parts}
 use Rattle.bookfaults.specs.Clauses.{markFound, providersFault, later, here, codeClauses, filterClauses, pairClauses, codes, filters, pairs, placeIn, lastAt, metBy, clausesIn, placeFound, listFault, bytesFault, booksFault}
 use Rattle.bookfaults.proofs.Pairs.{twoCodes, differ, clear, pairsFrom, prefix, met-clear, pairs-chain}
 

@@ -11,7 +11,7 @@ pub fn fit(l: Listed, books: &[u8], most: u8, places: usize) -> bool
     ensures { λ r. ⌜ r ≡ fitting l (now (books .entry)) most places ⌝ }
 {
     let listed = l.sound;
-    let kept = audit::sound(l.marks, books);
+    let kept = soundbooks::sound(l.marks, books);
     listed & kept & (most <= 7) & (64 <= places)
 }
 
@@ -39,6 +39,6 @@ pub fn books_check(providers: &[u8], books: &[u8]) -> u8
     let l = providers::marks_of_bytes(providers);
     let marks = l.marks;
     let listed = l.sound;
-    let kept = audit::sound(marks, books);
+    let kept = soundbooks::sound(marks, books);
     if listed & kept { 0 } else { 1 }
 }

@@ -103,7 +103,7 @@ fn books_fit(providers: &[u8], books: &[u8]) -> bool {
         files::say_length(BOOKS);
         return false;
     }
-    let kept = audit::sound(l.marks, books);
+    let kept = soundbooks::sound(l.marks, books);
     if !kept {
         names::say_of(BOOKS, b"the books are unsound: inspect says where");
     }

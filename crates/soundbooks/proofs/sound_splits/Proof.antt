@@ -1,14 +1,14 @@
--- `audit::sound_splits` meets its contract. The loop's invariant: the places that are left decide.
+-- `soundbooks::sound_splits` meets its contract. The loop's invariant: the places that are left decide.
 -- Assumes nothing.
 use borrow.Author.Needs.{needs}
 use Prim.Native.Nat.{_-_}
 use mathlib.Core.Path.{_≡_, refl, sym, _∙_}
 use borrow.Author.Tests.{not-true, not-false}
 use Rattle.books.specs.Packed.{splitPlace, splitPlaces}
-use Rattle.audit.specs.Scan.{scan, scan-free, scan-bad, scan-end}
-use Rattle.audit.specs.Sound.{splitTest, split-next}
-use Rattle.audit.proofs.sound_splits.Statement.{statement}
-use Rattle.audit.proofs.sound_splits.Tie as tie
+use Rattle.soundbooks.specs.Scan.{scan, scan-free, scan-bad, scan-end}
+use Rattle.soundbooks.specs.Sound.{splitTest, split-next}
+use Rattle.soundbooks.proofs.sound_splits.Statement.{statement}
+use Rattle.soundbooks.proofs.sound_splits.Tie as tie
 
 abbrev Inv-loop : tie.InvT-loop
 Inv-loop books i₀ i = scan splitTest (splitPlace books) splitPlaces 0 0 ≡ scan splitTest (splitPlace books) (splitPlaces - i) i 0

@@ -1,4 +1,4 @@
--- `audit::sound_rows` meets its contract.
+-- `soundbooks::sound_rows` meets its contract.
 -- Assumes nothing.
 use borrow.Author.Needs.{needs}
 use Prim.Native.Nat.{_+_, _-_, _*_}
@@ -7,10 +7,10 @@ use native.Mathlib.Omega.{arith}
 use borrow.Author.Tests.{not-true, not-false}
 use Rattle.octets.specs.Octets.{be}
 use Rattle.books.specs.Packed.{placeOf, rowPlaces}
-use Rattle.audit.specs.Scan.{scan, scan-free, scan-bad, scan-next, scan-end}
-use Rattle.audit.specs.Sound.{rowTest}
-use Rattle.audit.proofs.sound_rows.Statement.{statement}
-use Rattle.audit.proofs.sound_rows.Tie as tie
+use Rattle.soundbooks.specs.Scan.{scan, scan-free, scan-bad, scan-next, scan-end}
+use Rattle.soundbooks.specs.Sound.{rowTest}
+use Rattle.soundbooks.proofs.sound_rows.Statement.{statement}
+use Rattle.soundbooks.proofs.sound_rows.Tie as tie
 
 abbrev Inv-loop : tie.InvT-loop
 Inv-loop filters marks books at last₀ w₀ i₀ last w i =

@@ -1,11 +1,11 @@
--- `audit::head_free` meets its contract.
+-- `soundbooks::head_free` meets its contract.
 -- Assumes nothing.
 use borrow.Author.Needs.{needs}
 use Prim.Native.Nat.{ℕ}
 use mathlib.Core.Path.{ap}
 use lib.Dec.{eqb}
-use Rattle.audit.proofs.head_free.Statement.{statement}
-use Rattle.audit.proofs.head_free.Tie as tie
+use Rattle.soundbooks.proofs.head_free.Statement.{statement}
+use Rattle.soundbooks.proofs.head_free.Tie as tie
 
 u64-at-requires : tie.Need-u64-at-requires
 u64-at-requires c κs = search needs

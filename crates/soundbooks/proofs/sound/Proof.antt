@@ -1,11 +1,11 @@
--- `audit::sound` meets its contract: the parts in their order, the first that fails decides.
+-- `soundbooks::sound` meets its contract: the parts in their order, the first that fails decides.
 -- Assumes nothing.
 use borrow.Author.Needs.{needs}
 use mathlib.Core.Path.{sym, _∙_}
 use borrow.Author.Tests.{eq-eqb, ne-eqb, not-true, not-false}
-use Rattle.audit.specs.Sound.{sound-parts}
-use Rattle.audit.proofs.sound.Statement.{statement}
-use Rattle.audit.proofs.sound.Tie as tie
+use Rattle.soundbooks.specs.Sound.{sound-parts}
+use Rattle.soundbooks.proofs.sound.Statement.{statement}
+use Rattle.soundbooks.proofs.sound.Tie as tie
 
 returns : tie.Need-returns
 returns c =

@@ -1,14 +1,14 @@
--- `audit::apart` meets its contract. The loop's invariant: the pairs that are left decide.
+-- `soundbooks::apart` meets its contract. The loop's invariant: the pairs that are left decide.
 -- Assumes nothing.
 use borrow.Author.Needs.{needs}
 use Prim.Native.Nat.{_-_}
 use mathlib.Core.Path.{_≡_, refl, sym, _∙_}
 use Rattle.books.specs.Packed.{splitsAt, splitPlace, splitPlaces}
 use Rattle.books.specs.Places.{restOf, used-none, used-end}
-use Rattle.audit.specs.Halves.{halves, halves-free, halves-used, halves-code}
-use Rattle.audit.specs.Sound.{apartFrom, apart-end, apart-one, apart-other, apart-next}
-use Rattle.audit.proofs.apart.Statement.{statement}
-use Rattle.audit.proofs.apart.Tie as tie
+use Rattle.soundbooks.specs.Halves.{halves, halves-free, halves-used, halves-code}
+use Rattle.soundbooks.specs.Sound.{apartFrom, apart-end, apart-one, apart-other, apart-next}
+use Rattle.soundbooks.proofs.apart.Statement.{statement}
+use Rattle.soundbooks.proofs.apart.Tie as tie
 
 abbrev Inv-loop : tie.InvT-loop
 Inv-loop books one other i k₀ k = apartFrom one other (restOf (splitPlace books) splitPlaces i) ≡ apartFrom one other (restOf (splitPlace books) splitPlaces k)

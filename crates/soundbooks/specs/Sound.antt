@@ -16,7 +16,7 @@ use Rattle.model.specs.declared.Marks.{Marks}
 use Rattle.books.specs.Packed.{bookBytes, rowPlaces, splitPlaces, headOf, codePlace, filterPlace, splitPlace, ownedOf, filterOf, splitOf, usedFrom, packedFrom, soundBytes}
 use Rattle.books.specs.Places.{restOf, used-more, used-length}
 use Rattle.entries.specs.Good.{goodCode, goodRow}
-use Rattle.audit.specs.Scan.{Test, chain, scan, scan-is, scan-next, scan-forgets}
+use Rattle.soundbooks.specs.Scan.{Test, chain, scan, scan-is, scan-next, scan-forgets}
 
 -- ---- the tests
 

@@ -5,8 +5,8 @@ ghost use lib.Dec.{eqb};
 ghost use lib.ListN.{length};
 ghost use Rattle.books.specs.Packed.{bookBytes, rowPlaces, splitPlaces, placeOf, headOf, splitPlace, soundBytes};
 ghost use Rattle.books.specs.Places.{restOf};
-ghost use Rattle.audit.specs.Scan.{scan};
-ghost use Rattle.audit.specs.Sound.{rowTest, apartFrom, goodSplit, splitTest};
+ghost use Rattle.soundbooks.specs.Scan.{scan};
+ghost use Rattle.soundbooks.specs.Sound.{rowTest, apartFrom, goodSplit, splitTest};
 use model::Marks;
 
 // Whether neither code stands in a pair from place i on.

@@ -1,8 +1,8 @@
--- `audit::good_split` meets its contract.
+-- `soundbooks::good_split` meets its contract.
 -- Assumes nothing.
 use borrow.Author.Needs.{needs}
-use Rattle.audit.proofs.good_split.Statement.{statement}
-use Rattle.audit.proofs.good_split.Tie as tie
+use Rattle.soundbooks.proofs.good_split.Statement.{statement}
+use Rattle.soundbooks.proofs.good_split.Tie as tie
 
 apart-requires : tie.Need-apart-requires
 apart-requires c κs = search needs
