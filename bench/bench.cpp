@@ -20,7 +20,7 @@ using namespace paper;
 
 namespace {
 
-const std::vector<size_t> SIZES = {64, 512, 4096};
+const std::vector<size_t> SIZES = {64, 512, MOST_ROWS};
 volatile uint64_t sink;  // what is computed is wanted
 std::vector<std::string> differing;
 
@@ -86,7 +86,7 @@ const Lists STEP_LISTS = {20, 256, 64, 8, false};
 
 void makeBooks(Dice &d, Situation &s, const Lists &l, std::vector<Code> &codes) {
     s.books = Books(), s.present.clear(), s.systems.clear();
-    s.books.providers.resize(63);
+    s.books.providers.resize(PROVIDERS);
     for (Provider p = 1; p <= l.providers; p++) {
         s.books.providers[p - 1] = {true, true};
         s.present.push_back(p), s.systems.push_back(p);
@@ -210,10 +210,10 @@ void soundness(const std::vector<Situation> &situations) {
         for (size_t i = 0; i < SIZES.size(); i++) {
             Situation s = situations[i];
             if (way == 2) s.table.used.clear();
-            auto l = std::make_shared<Lent>(s, SIZES[i], 64, Bytes());
+            auto l = std::make_shared<Lent>(s, SIZES[i], PLACES, Bytes());
             if (way == 1) l->tableAt[(SIZES[i] - 1) * ROW + 7] |= 1;
             const uint8_t *t = l->tableAt.data();
-            size_t length = l->tableAt.size(), times = 4096 / SIZES[i];
+            size_t length = l->tableAt.size(), times = MOST_ROWS / SIZES[i];
             lupinenblatt_answer a = lupinenblatt_table_check(t, length), b = hand_table_check(t, length);
             mustAgree(a.outcome == b.outcome && a.count == b.count, names[way]);
             cells.push_back(plan(100, [l] {}, {often(times, [=] { sink = lupinenblatt_table_check(t, length).count; }),
@@ -226,11 +226,12 @@ void soundness(const std::vector<Situation> &situations) {
 
 void booksRow(const char *name, const Lists &lists) {
     Dice d(5);
-    auto l = std::make_shared<Lent>(makeRows(d, lists, 64, 1000), 64, 64, Bytes());
+    auto l = std::make_shared<Lent>(makeRows(d, lists, 64, 1000), 64, PLACES, Bytes());
     const uint8_t *p = l->providers.data(), *b = l->books.data();
-    mustAgree(lupinenblatt_books_check(p, 63, b, BOOKS) == hand_books_check(p, 63, b, BOOKS), name);
-    addRow(name, {plan(100, [l] {}, {often(10, [=] { sink = lupinenblatt_books_check(p, 63, b, BOOKS); }),
-                                     often(10, [=] { sink = hand_books_check(p, 63, b, BOOKS); }), often(10, [=] { sink = plain_pass(b, BOOKS); })})});
+    mustAgree(lupinenblatt_books_check(p, PROVIDERS, b, BOOKS) == hand_books_check(p, PROVIDERS, b, BOOKS), name);
+    addRow(name, {plan(100, [l] {}, {often(10, [=] { sink = lupinenblatt_books_check(p, PROVIDERS, b, BOOKS); }),
+                                     often(10, [=] { sink = hand_books_check(p, PROVIDERS, b, BOOKS); }),
+                                     often(10, [=] { sink = plain_pass(b, BOOKS); })})});
 }
 
 // ---- Records ----
@@ -247,8 +248,8 @@ void records() {
     }
     auto readAll = [=](auto read) {
         return [=] {
-            uint64_t fields[10];
-            for (size_t i = 0; i < events->size(); i++) sink = read(bytes->data() + i * RECORD, RECORD, fields, 10);
+            uint64_t fields[FIELDS];
+            for (size_t i = 0; i < events->size(); i++) sink = read(bytes->data() + i * RECORD, RECORD, fields, FIELDS);
         };
     };
     auto writeAll = [=](auto write) {
@@ -311,7 +312,7 @@ std::optional<Event> findEvent(Dice &d, const Situation &s, const Wanted &w) {
         Event e = nextEvent(d, s, w.outcome == DONE ? 95 : 30);
         if (w.outcome == UNLISTED) e = aCreate(d, s, Tn{anyTenDigits(d)});
         if ((w.kind != 0 && e.kind != w.kind) || outcomeOf(s.table, s.books, e) != w.outcome) continue;
-        if (w.outcome == DONE && e.kind <= 2 && (workedVersion(s.table, e.tn) == nullptr) != w.fresh) continue;
+        if (w.outcome == DONE && e.kind <= OLD_CREATES && (workedVersion(s.table, e.tn) == nullptr) != w.fresh) continue;
         return e;
     }
     return std::nullopt;
@@ -336,7 +337,7 @@ std::vector<Measured> stepRow(Dice &d, const Wanted &w, const std::vector<Situat
             if (w.fresh) s.table.used.pop_back(), s.table.freeRows = 1;
             e = findEvent(d, s, w);
         }
-        cells.push_back(e ? planStep(std::make_shared<Lent>(s, SIZES[i], 64, packEvent(*e)), SIZES[i], w.outcome, w.name) : nullptr);
+        cells.push_back(e ? planStep(std::make_shared<Lent>(s, SIZES[i], PLACES, packEvent(*e)), SIZES[i], w.outcome, w.name) : nullptr);
     }
     addRow(std::string("step, ") + w.name, cells);
     return cells;
@@ -396,16 +397,16 @@ Bytes activations(const Situation &s) {
 }
 
 const std::vector<std::pair<const char *, Lists>> SELECTIONS = {
-    {"0 filters", {63, 256, 0, 8, false}},
-    {"64 filters", {63, 256, 64, 8, false}},
-    {"1,024 filters", {63, 256, 1024, 8, false}},
-    {"1,024 filters, the code in a pair", {63, 256, 1024, 64, true}},
+    {"0 filters", {PROVIDERS, 256, 0, 8, false}},
+    {"64 filters", {PROVIDERS, 256, 64, 8, false}},
+    {"1,024 filters", {PROVIDERS, 256, FILTERS, 8, false}},
+    {"1,024 filters, the code in a pair", {PROVIDERS, 256, FILTERS, SPLITS, true}},
 };
 
 void selections() {
     for (const auto &[name, lists] : SELECTIONS) {
         Situation s = toActivate(lists, 64);
-        addRow(std::string("step, activate, ") + name, {planStep(std::make_shared<Lent>(s, 64, 64, activations(s)), 64, DONE, name)});
+        addRow(std::string("step, activate, ") + name, {planStep(std::make_shared<Lent>(s, 64, PLACES, activations(s)), 64, DONE, name)});
     }
 }
 
@@ -462,7 +463,7 @@ struct Run {
 
 Run planRun(const std::string &name, const Situation &s, size_t rows, const Bytes &events, size_t repetitions) {
     size_t count = events.size() / RECORD, stepped = std::min<size_t>(count, 200);
-    auto l = std::make_shared<Lent>(s, rows, 64 + 63 * std::min<size_t>(count, 64) + 4 * count, events);
+    auto l = std::make_shared<Lent>(s, rows, PLACES + MOST_MESSAGES * std::min<size_t>(count, 64) + 4 * count, events);
     Lent other = *l;
     mustAgree(ourRun(*l) == count && handRun(other) == count && l->same(other), name);
     Measured m = plan(repetitions, [=] { l->restore(); }, {[=] { sink = ourRun(*l); }, [=] { sink = handRun(*l); }, [=] {
@@ -481,7 +482,7 @@ void runs(const std::vector<Situation> &situations) {
     Dice d(17);
     std::vector<Run> still, mixed;
     for (size_t i = 0; i < SIZES.size(); i++) {
-        size_t free = std::min<size_t>(300, 4096 - SIZES[i]);
+        size_t free = std::min<size_t>(300, MOST_ROWS - SIZES[i]);
         still.push_back(planRun("run, modifications", situations[i], SIZES[i], stillEvents(d, situations[i], 20000), 4));
         mixed.push_back(planRun("run, all kinds", situations[i], SIZES[i] + free, mixedEvents(d, situations[i], 1500, free), 8));
     }
@@ -516,7 +517,7 @@ int main(int argc, char **argv) {
     steps(situations);
     lines.push_back([] { std::printf("\n%-52s|     /hand    /pass\n", "books, selection (at 64 rows), records"); });
     booksRow("books check, 256 codes, 64 filters, 8 pairs", STEP_LISTS);
-    booksRow("books check, all places used", {63, 1024, 1024, 64, true});
+    booksRow("books check, all places used", {PROVIDERS, CODES, FILTERS, SPLITS, true});
     selections();
     records();
 #ifdef TEST_RUN

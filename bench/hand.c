@@ -5,12 +5,11 @@
  * number's rows are found by bisection; rows and messages are written word by word; rows move by memmove.
  */
 #include "hand.h"
+#include "sizes.h"
 
 #include <stdbool.h>
 #include <string.h>
 
-enum { ROW = 80, PLACE = 24, RECORD = 24, BOOKS = 8712, MOST_ROWS = 4096, LEAST_PLACES = 64, MOST_RETRIES = 7 };
-enum { CODES_AT = 8, FILTERS_AT = 4104, SPLITS_AT = 8200, CODES = 1024, FILTERS = 1024, SPLITS = 64 };
 enum { PENDING, CONFLICT, CANCEL_PENDING, SENDING, FAILED, PARTIAL_FAILURE, ACTIVE, OLD, CANCELED };
 enum { NEW_CREATES = 1, OLD_CREATES, NEW_MODIFIES, OLD_MODIFIES, ACTIVATES, CANCELS, ACKNOWLEDGES, RESOLVES, MODIFIES_ACTIVE, DISCONNECTS,
        REPLY, SILENCE, WINDOW_RAN_OUT, RESEND, PURGE };
@@ -18,6 +17,13 @@ enum { CREATION = 1, STATUS, ATTRIBUTES, DOWNLOAD_CREATE, WINDOW_NOTICE = 7 };  
 enum { YES = 1, NO = 2 };
 enum { ACTIVATE = 1, MODIFY, DISCONNECT };
 enum { NEW_SIDE = 1, OLD_SIDE = 2, NPAC = 4 };  /* standings; the first two are cancellers too */
+
+/* The numbers above and the layouts below are those that sizes.h counts. */
+_Static_assert((int)PURGE == KINDS && CANCELED + 1 == STATUSES && (int)WINDOW_NOTICE == SORTS && DISCONNECT + 1 == PURPOSES, "numbers");
+_Static_assert(OLD_SIDE + 1 == CANCELLERS && NO + 1 == MARKS && PROVIDERS == 63 && MOST_RETRIES == 7, "numbers");
+_Static_assert(ROW == 80 && MESSAGE == 24 && RECORD == 24 && FIELDS == 10 && STATUS_VALUES == 16, "layouts");
+_Static_assert(CODES_AT == 8 && FILTERS_AT == CODES_AT + 4 * CODES && FILTERS % 8 == 0 && SPLITS_AT == FILTERS_AT + 4 * FILTERS
+               && BOOKS == SPLITS_AT + 8 * SPLITS, "layouts");
 
 /* ---- Bytes ---- */
 
@@ -99,7 +105,7 @@ static inline uint32_t not_a_code(uint32_t c)
 #define AIMLESS (~PURPOSE_LOW & ~PURPOSE_HIGH)
 #define TO_ACTIVATE (PURPOSE_LOW & ~PURPOSE_HIGH)
 
-static const uint64_t FITS[16] = {
+static const uint64_t FITS[STATUS_VALUES] = {
     [PENDING] = (NEWC | OLDC) & ~LIVE & AIMLESS & ~CANCELLER,
     [CONFLICT] = OLDC & ~LIVE & AIMLESS & ~CANCELLER,
     [CANCEL_PENDING] = NEWC & OLDC & ~LIVE & AIMLESS & CANCELLER,
@@ -119,7 +125,7 @@ static const uint64_t FITS[16] = {
 #endif
 
 /* What a number may have once: a sending version 2, a worked one 4; live is 1. */
-static const uint8_t ONCE[16] = {[PENDING] = 4, [CONFLICT] = 4, [CANCEL_PENDING] = 4, [SENDING] = 2};
+static const uint8_t ONCE[STATUS_VALUES] = {[PENDING] = 4, [CONFLICT] = 4, [CANCEL_PENDING] = 4, [SENDING] = 2};
 
 /* The lowest 21 bits, each to the lowest of its three. */
 static inline uint64_t spread(uint64_t s)
@@ -187,6 +193,7 @@ typedef struct {
 } books_t;
 
 /* No code stands twice in the first n pairs: a table of twice the room, searched from a code's own place on. */
+_Static_assert(2 * 2 * SPLITS <= 256, "twice the room");
 static bool apart(const uint8_t *at, size_t n)
 {
     uint32_t places[256];
@@ -206,7 +213,7 @@ static bool apart(const uint8_t *at, size_t n)
 
 static bool check_books(const uint8_t *providers, size_t providers_length, const uint8_t *at, size_t length, books_t *b)
 {
-    if (providers_length > 63 || length != BOOKS || load64(at) != 0) return false;
+    if (providers_length > PROVIDERS || length != BOOKS || load64(at) != 0) return false;
     uint64_t present = 0, local = 0;
     uint32_t bad = 0, last = 0;
     size_t i;
@@ -316,7 +323,7 @@ typedef struct {
 enum { HAS_SENDER = 1, MAY_BE_NPAC = 2, HAS_OTHER = 4, HAS_MARK = 8, HAS_CAUSE = 16, HAS_LRN = 32, HAS_VERSION = 64, HAS_DUE = 128 };
 #define PLAIN (HAS_SENDER | MAY_BE_NPAC | HAS_VERSION)
 
-static const uint8_t NAMED[16] = {
+static const uint8_t NAMED[KINDS + 1] = {
     [NEW_CREATES] = HAS_SENDER | HAS_OTHER | HAS_LRN | HAS_DUE,
     [OLD_CREATES] = HAS_SENDER | HAS_OTHER | HAS_MARK | HAS_CAUSE | HAS_DUE,
     [NEW_MODIFIES] = PLAIN | HAS_LRN | HAS_DUE,
@@ -365,8 +372,8 @@ static bool read_event(const uint8_t *at, event_t *e)
 uint8_t hand_record_read(const uint8_t *bytes, size_t length, uint64_t *fields, size_t places)
 {
     event_t e;
-    if (length != RECORD || places != 10 || !read_event(bytes, &e)) return 2;
-    const uint64_t all[10] = {e.kind, e.sender, e.other, e.mark, e.cause, e.tn, e.lrn, e.version, e.time, e.due};
+    if (length != RECORD || places != FIELDS || !read_event(bytes, &e)) return 2;
+    const uint64_t all[FIELDS] = {e.kind, e.sender, e.other, e.mark, e.cause, e.tn, e.lrn, e.version, e.time, e.due};
     memcpy(fields, all, sizeof all);
     return 0;
 }
@@ -374,8 +381,8 @@ uint8_t hand_record_read(const uint8_t *bytes, size_t length, uint64_t *fields, 
 uint8_t hand_record_write(uint64_t kind, uint64_t sender, uint64_t other, uint64_t mark, uint64_t cause, uint64_t tn, uint64_t lrn,
                           uint64_t version, uint64_t time, uint64_t due, uint8_t *out, size_t length)
 {
-    if (length != RECORD || kind > 15 || sender > 63 || other > 63 || mark > 2 || cause > 99 || version > 0xffff || time > 0xffffffff
-        || due > 0xffffffff)
+    if (length != RECORD || kind > KINDS || sender > PROVIDERS || other > PROVIDERS || mark > NO || cause > LAST_CAUSE
+        || version > LAST_VERSION || time > 0xffffffff || due > 0xffffffff)
         return 2;
     event_t e = {tn, lrn, version, time, due, (unsigned)kind, (unsigned)sender, (unsigned)other, (unsigned)mark, (unsigned)cause};
     if (!well_formed(&e)) return 2;
@@ -450,7 +457,7 @@ static inline uint8_t *tell(uint8_t *tray, uint64_t w0, unsigned provider, unsig
     store64(tray, (w0 & ~(uint64_t)1023) | provider << 4 | sort);
     store64(tray + 8, second);
     store64(tray + 16, failed);
-    return tray + PLACE;
+    return tray + MESSAGE;
 }
 
 static inline uint8_t *tell_both(uint8_t *tray, uint64_t w0, uint64_t w1, unsigned sort)
@@ -626,13 +633,13 @@ static unsigned answer(const engine_t *g, const event_t *e, uint8_t **tray)
 /* ---- All other kinds ---- */
 
 #define IN(status) (1 << (status))
-static const uint16_t ALLOWS[16] = {
+static const uint16_t ALLOWS[KINDS + 1] = {
     [NEW_MODIFIES] = IN(PENDING) | IN(CONFLICT), [OLD_MODIFIES] = IN(PENDING) | IN(CONFLICT), [CANCELS] = IN(PENDING) | IN(CONFLICT),
     [ACTIVATES] = IN(PENDING), [ACKNOWLEDGES] = IN(CANCEL_PENDING), [RESOLVES] = IN(CONFLICT),
     [MODIFIES_ACTIVE] = IN(ACTIVE), [DISCONNECTS] = IN(ACTIVE), [WINDOW_RAN_OUT] = IN(PENDING) | IN(CANCEL_PENDING),
     [RESEND] = IN(FAILED) | IN(PARTIAL_FAILURE) | IN(ACTIVE), [PURGE] = IN(OLD) | IN(CANCELED),
 };
-static const uint8_t STANDS[16] = {
+static const uint8_t STANDS[KINDS + 1] = {
     [NEW_MODIFIES] = NEW_SIDE, [ACTIVATES] = NEW_SIDE, [MODIFIES_ACTIVE] = NEW_SIDE, [DISCONNECTS] = NEW_SIDE, [OLD_MODIFIES] = OLD_SIDE,
     [CANCELS] = NEW_SIDE | OLD_SIDE, [ACKNOWLEDGES] = NEW_SIDE | OLD_SIDE, [RESOLVES] = NEW_SIDE | OLD_SIDE,
     [WINDOW_RAN_OUT] = NPAC, [RESEND] = NPAC, [PURGE] = NPAC,
@@ -742,14 +749,14 @@ static lupinenblatt_answer act(engine_t *g, const uint8_t *record, uint8_t *tray
     else if (e.kind <= OLD_CREATES) a.outcome = create(g, &e, &end);
     else if (e.kind == REPLY || e.kind == SILENCE) a.outcome = answer(g, &e, &end);
     else a.outcome = other_kind(g, &e, &end);
-    a.count = (uint64_t)(end - tray) / PLACE;
+    a.count = (uint64_t)(end - tray) / MESSAGE;
     return a;
 }
 
 static bool begin(engine_t *g, uint8_t *table, size_t table_length, const uint8_t *providers, size_t providers_length, const uint8_t *books,
                   size_t books_length, uint64_t retries, size_t tray_length)
 {
-    if (retries > MOST_RETRIES || tray_length / PLACE < LEAST_PLACES) return false;
+    if (retries > MOST_RETRIES || tray_length / MESSAGE < PLACES) return false;
     if (!check_books(providers, providers_length, books, books_length, &g->books)) return false;
     ptrdiff_t used = check_table(table, table_length);
     if (used < 0) return false;
@@ -785,14 +792,14 @@ lupinenblatt_ran hand_run(uint8_t *table, size_t table_length, const uint8_t *pr
 {
     lupinenblatt_ran ran = {1, 0, 0};
     engine_t g;
-    size_t count = events_length / RECORD, places = tray_length / PLACE;
+    size_t count = events_length / RECORD, places = tray_length / MESSAGE;
     if (outcomes_length / 2 < count) return ran;
     if (!begin(&g, table, table_length, providers, providers_length, books, books_length, retries, tray_length)) return ran;
     ran.outcome = 2;
     if (events_length % RECORD != 0) return ran;
     ran.outcome = 0;
-    while (ran.events < count && places - ran.messages >= LEAST_PLACES) {
-        lupinenblatt_answer a = act(&g, events + RECORD * ran.events, tray + PLACE * ran.messages);
+    while (ran.events < count && places - ran.messages >= PLACES) {
+        lupinenblatt_answer a = act(&g, events + RECORD * ran.events, tray + MESSAGE * ran.messages);
         outcomes[2 * ran.events] = (uint8_t)a.outcome;
         outcomes[2 * ran.events + 1] = (uint8_t)a.count;
         ran.events++;

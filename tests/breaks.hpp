@@ -45,7 +45,7 @@ inline void breakOldSide(Dice &d, Version &v) {
     case 0: v.oldCreated = !v.oldCreated; break;
     case 1: v.oldDue = v.oldDue != 0 ? 0 : d.between(1, LAST_TIME); break;
     case 2: v.authorization = v.authorization != NONE ? NONE : d.chance(50) ? YES : NO; break;
-    default: v.authorization = Authorization(3);
+    default: v.authorization = Authorization(MARKS);
     }
 }
 
@@ -83,13 +83,13 @@ inline void breakApart(Dice &d, Version &v, Provider p) {
 }
 
 inline void breakMarks(Dice &d, Version &v, uint64_t number) {
-    Provider p = d.between(1, 63);
-    while (number == 22 && v.waiting.count(p) && v.waiting.size() < 63) p = p % 63 + 1;
+    Provider p = d.between(1, PROVIDERS);
+    while (number == 22 && v.waiting.count(p) && v.waiting.size() < PROVIDERS) p = p % PROVIDERS + 1;
     switch (number) {
-    case 19: v.cause = v.authorization == NO && d.chance(50) ? 0 : d.between(v.authorization == NO ? 100 : 1, 127); break;
+    case 19: v.cause = v.authorization == NO && d.chance(50) ? 0 : d.between(v.authorization == NO ? LAST_CAUSE + 1 : 1, 127); break;
     case 20: v.canceller = v.status == CANCEL_PENDING ? NOBODY : d.chance(50) ? NEW_SIDE : OLD_SIDE; break;
     case 21: breakApart(d, v, p); break;
-    case 22: v.retries[p] = d.between(1, 7); break;
+    case 22: v.retries[p] = d.between(1, MOST_RETRIES); break;
     case 23: v.start = v.start != 0 ? 0 : d.between(1, LAST_TIME); break;
     case 24:
         if (v.waiting.empty() && !v.confirmed.count(p) && !v.failed.count(p)) v.waiting.insert(p);
@@ -110,11 +110,11 @@ inline void breakVersion(Dice &d, Version &v, uint64_t number) {
     switch (number) {
     case 5: v.tn.digits = d.chance(80) ? badDigits(d, v.tn.digits) : d.chance(50) ? 0 : d.between(10000000000, 17179869183); break;
     case 6: v.number = 0; break;
-    case 7: v.status = Status(d.between(9, 15)); break;
+    case 7: v.status = Status(d.between(STATUSES, STATUS_VALUES - 1)); break;
     case 8: v.stamp = 0; break;
     case 9: v.newProvider = 0; break;
     case 10: v.oldProvider = 0; break;
-    case 11: v.canceller = Side(3); break;
+    case 11: v.canceller = Side(CANCELLERS); break;
     case 12: (d.chance(33) ? v.confirmed : d.chance(50) ? v.waiting : v.failed).insert(0); break;
     case 14: v.newProvider = v.oldProvider = d.chance(50) ? v.newProvider : v.oldProvider; break;
     case 15: breakNewSide(d, v); break;
@@ -136,9 +136,9 @@ inline void addNumbers(Dice &d, Table &t, size_t rows) {
         Tn tn{anyTenDigits(d)};
         if (known.insert(tn).second) makeVersionsOf(d, s, tn, t.used);
     }
-    if (t.used.size() > 4096) t.used.resize(4096);
+    if (t.used.size() > MOST_ROWS) t.used.resize(MOST_ROWS);
     std::sort(t.used.begin(), t.used.end(), [](const Version &a, const Version &b) { return rising(a, b); });
-    t.freeRows = std::min(t.freeRows, 4096 - t.used.size());
+    t.freeRows = std::min(t.freeRows, MOST_ROWS - t.used.size());
 }
 
 // Number 28: the row and the one before it exchanged, or the key of the one before it or less, or that one twice.
@@ -162,7 +162,7 @@ inline void breakCounts(Dice &d, Table &t, uint64_t number) {
     Version again = t.used[at], other = again;
     while (at + 1 < t.used.size() && t.used[at + 1].tn == again.tn) at++;
     uint64_t between = d.chance(3) ? d.between(200, 300) : d.chance(40) ? d.between(1, 4) : 0, last = t.used[at].number;
-    if (last + between >= 65535 || t.used.size() + between >= 4096) return;
+    if (last + between >= LAST_VERSION || t.used.size() + between >= MOST_ROWS) return;
     other.status = CANCELED, other.live = false, other.canceller = NOBODY, other.start = 0, other.purpose = NO_PURPOSE;
     other.waiting.clear(), other.retries.clear();
     std::vector<Version> more(between + 1, other);
@@ -186,18 +186,18 @@ inline void breakRows(Dice &d, Bytes &out, size_t at, size_t used) {
 
 // Numbers 1 and 2: part of a row too much or too little, too many rows, both.
 inline void breakLength(Dice &d, Bytes &out) {
-    size_t part = d.between(1, 79), too = (4097 + d.below(3)) * ROW;
+    size_t part = d.between(1, ROW - 1), too = (MOST_ROWS + 1 + d.below(3)) * ROW;
     switch (d.below(5)) {
     case 0: out.resize(out.size() + part); break;
     case 1: out.resize(out.size() - std::min(out.size(), part)); break;
-    case 2: out.resize(4096 * ROW + part); break;
+    case 2: out.resize(MOST_ROWS * ROW + part); break;
     case 3: out.resize(too + part); break;
     default: out.resize(too);
     }
 }
 
 inline Bytes brokenTable(Dice &d, Table t) {
-    size_t more = d.chance(2) ? 4096 : d.chance(8) ? d.between(250, 300) : t.used.size() + d.between(2, 9);
+    size_t more = d.chance(2) ? MOST_ROWS : d.chance(8) ? d.between(250, 300) : t.used.size() + d.between(2, 9);
     if (t.used.size() < 2 || d.chance(25)) addNumbers(d, t, more);
     std::vector<Break> breaks = anyBreaks(d, t.used.size(), 3, 31), bits;
     for (const Break &b : breaks) {
@@ -212,7 +212,7 @@ inline Bytes brokenTable(Dice &d, Table t) {
         if (b.number == 3) breakRows(d, out, b.at, t.used.size());
         else flip(out, b.at * ROW * 8 + (b.number == 13 ? unusedRetriesBit(d) : spareBit(d)));
     }
-    if (out.size() > 4096 * ROW) out.resize(4096 * ROW);
+    if (out.size() > MOST_ROWS * ROW) out.resize(MOST_ROWS * ROW);
     if (d.chance(5)) breakLength(d, out);
     return out;
 }
@@ -222,15 +222,15 @@ inline Bytes brokenTable(Dice &d, Table t) {
 // Numbers 1 and 2: too many bytes, bytes that are no marks.
 inline Bytes brokenProviders(Dice &d, const Books &b) {
     Bytes out = packProviders(b);
-    if (d.chance(30)) out.resize(d.chance(60) ? 64 : d.between(64, 300));
-    if (out.empty()) out.resize(d.between(1, 63));
+    if (d.chance(30)) out.resize(d.chance(60) ? PROVIDERS + 1 : d.between(PROVIDERS + 1, 300));
+    if (out.empty()) out.resize(d.between(1, PROVIDERS));
     for (uint64_t n = d.below(4); n > 0; n--) out[d.below(out.size())] = uint8_t(d.chance(40) ? 2 : d.between(4, 255));
     return out;
 }
 
 inline std::vector<Provider> presentIn(const Books &b, bool wanted) {
     std::vector<Provider> out;
-    for (Provider p = 1; p <= 63; p++)
+    for (Provider p = 1; p <= PROVIDERS; p++)
         if (present(b, p) == wanted) out.push_back(p);
     return out;
 }
@@ -246,10 +246,10 @@ inline void addEntries(Dice &d, Books &b) {
     for (const FilterEntry &f : b.filters) filters.insert({f.provider, f.code});
     for (const SplitEntry &s : b.splits) paired.insert(s.one), paired.insert(s.two);
     if (!owners.empty()) {
-        for (size_t n = brim ? 1024 : d.between(2, 9); codes.size() < n;) codes[anyCode(d)] = d.pick(owners);
-        for (size_t n = brim ? 1024 : d.between(2, 9); filters.size() < n;) filters.insert({d.pick(owners), anyCode(d)});
+        for (size_t n = brim ? CODES : d.between(2, 9); codes.size() < n;) codes[anyCode(d)] = d.pick(owners);
+        for (size_t n = brim ? FILTERS : d.between(2, 9); filters.size() < n;) filters.insert({d.pick(owners), anyCode(d)});
     }
-    for (size_t n = brim ? 64 : d.between(2, 9); b.splits.size() < n;) {
+    for (size_t n = brim ? SPLITS : d.between(2, 9); b.splits.size() < n;) {
         Code one = anyCode(d), two = anyCode(d);
         if (one != two && !paired.count(one) && !paired.count(two)) b.splits.push_back({one, two}), paired.insert(one), paired.insert(two);
     }
@@ -286,7 +286,7 @@ inline void breakCode(Dice &d, Books &b, size_t at, uint64_t number) {
 // Numbers 10 to 12.
 inline void breakFilter(Dice &d, Books &b, size_t at, uint64_t number) {
     FilterEntry &f = b.filters[at];
-    if (number == 10) f.provider = d.chance(30) ? d.between(64, 4095) : notPresent(d, b);
+    if (number == 10) f.provider = d.chance(30) ? d.between(PROVIDERS + 1, 4095) : notPresent(d, b);
     else if (number == 11) f.code = badCode(d, 20);
     else if (at > 0 && d.chance(30)) std::swap(f, b.filters[at - 1]);
     else if (at > 0) f = b.filters[d.chance(70) ? at - 1 : d.below(at)];
@@ -316,23 +316,23 @@ inline void breakList(Dice &d, Bytes &out, size_t from, size_t places, size_t wi
 
 inline Bytes brokenBooks(Dice &d, Books b) {
     if (d.chance(70)) addEntries(d, b);
-    std::vector<Break> breaks = anyBreaks(d, 1024, 5, 16);
+    std::vector<Break> breaks = anyBreaks(d, CODES, 5, BOOKS_CLAUSES);
     auto sizeFor = [&](uint64_t number) { return number < 9 ? b.codes.size() : number < 13 ? b.filters.size() : b.splits.size(); };
     for (Break &k : breaks) {
         size_t used = sizeFor(k.number);
         if (used == 0) continue;
-        k.at = k.at == 1023 ? used - 1 : k.at % used;  // the last of all places stands for the last used one
+        k.at = k.at == CODES - 1 ? used - 1 : k.at % used;  // the last of all places stands for the last used one
         if (k.number > 5 && k.number < 9) breakCode(d, b, k.at, k.number);
         if (k.number > 9 && k.number < 13) breakFilter(d, b, k.at, k.number);
         if (k.number > 13) breakPair(d, b, k.at, k.number);
     }
     Bytes out = packBooks(b);
     for (const Break &k : breaks) {
-        if (k.number == 5 && !b.codes.empty()) breakList(d, out, CODES_AT, 1024, 4, k.at, b.codes.size());
-        if (k.number == 9 && !b.filters.empty()) breakList(d, out, FILTERS_AT, 1024, 4, k.at, b.filters.size());
-        if (k.number == 13 && !b.splits.empty()) breakList(d, out, SPLITS_AT, 64, 8, k.at, b.splits.size());
+        if (k.number == 5 && !b.codes.empty()) breakList(d, out, CODES_AT, CODES, 4, k.at, b.codes.size());
+        if (k.number == 9 && !b.filters.empty()) breakList(d, out, FILTERS_AT, FILTERS, 4, k.at, b.filters.size());
+        if (k.number == 13 && !b.splits.empty()) breakList(d, out, SPLITS_AT, SPLITS, 8, k.at, b.splits.size());
     }
-    if (d.chance(6)) out[d.below(8)] = uint8_t(d.between(1, 255));
+    if (d.chance(6)) out[d.below(CODES_AT)] = uint8_t(d.between(1, 255));
     if (d.chance(5)) out.resize(d.chance(60) ? BOOKS - 1 - d.below(8) : d.chance(60) ? BOOKS + 1 + d.below(8) : d.below(20000));
     return out;
 }

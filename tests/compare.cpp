@@ -28,10 +28,19 @@ struct Slices {
 
 struct Tally {
     uint64_t events = 0, differ = 0, records = 0, exchanged = 0, unsoundAfter = 0, checks = 0, runs = 0, stops = 0;
-    uint64_t outcomes[17][16] = {};  // by kind (0 and 16: no kind) and outcome
-    uint64_t tableFaults[33] = {}, booksFaults[17] = {};  // by number
+    uint64_t outcomes[KINDS + 2][OUTCOMES + 1] = {};  // by kind (the first and the last: no kind) and outcome (the last: no outcome)
+    uint64_t tableFaults[TABLE_CLAUSES + 2] = {}, booksFaults[BOOKS_CLAUSES + 2] = {};  // by number (the last: no number)
     uint64_t seed = 0, sequence = 0;
 } tally;
+
+// Counts an event by its kind, which is its record's first byte, and its outcome. False where tests/sizes.h lacks one of them: an outcome,
+// or a kind that was not refused for its form.
+bool counts(uint64_t kind, uint64_t outcome) {
+    tally.outcomes[std::min<uint64_t>(kind, KINDS + 1)][std::min<uint64_t>(outcome, OUTCOMES)]++;
+    bool none = kind == 0 || kind > KINDS;
+    return outcome < OUTCOMES && (!none || outcome == UNSOUND || outcome == MALFORMED);
+}
+const char *const UNCOUNTED = "an outcome or a kind that tests/sizes.h does not count";
 
 std::string nonZeroLines(const Bytes &bytes) {
     std::string text = std::to_string(bytes.size()) + " bytes (lines not shown are zero)\n";
@@ -95,10 +104,10 @@ bool compareStep(Slices &s, const Bytes &record, std::optional<Table> &table, co
         table2 = before.table;
     }
     tally.events++;
-    tally.outcomes[record.empty() ? 0 : std::min<int>(record[0], 16)][std::min<uint64_t>(model.outcome, 15)]++;
+    bool counted = counts(record.empty() ? 0 : record[0], model.outcome);
     const char *what = library.outcome != model.outcome ? "outcome" : library.count != model.messages.size() ? "count"
         : s.table != table2 ? "table" : s.tray != tray2 ? "tray" : s.providers != before.providers ? "providers written to"
-        : s.books != before.books ? "books written to" : nullptr;
+        : s.books != before.books ? "books written to" : !counted ? UNCOUNTED : nullptr;
     if (model.outcome == DONE && !sound(*table)) what = "the model leaves an unsound table", tally.unsoundAfter++;
     if (!what) return true;
     report(what, before, record);
@@ -129,6 +138,8 @@ Slices slicesOf(Dice &d, const Situation &s) {
 
 // One of the slices or R damaged, now and then two slices.
 void damage(Dice &d, Slices &s, const Situation &now) {
+    static const std::vector<size_t> trayLengths = {0, 1, MESSAGE, (PLACES - 1) * MESSAGE, PLACES * MESSAGE - 1, PLACES * MESSAGE,
+                                                    PLACES * MESSAGE + 1, (PLACES + 36) * MESSAGE};
     s.shortCall = false;
     uint64_t way = d.below(100);
     if (way < 27) s.table = damagedTable(d, now.table);
@@ -137,8 +148,8 @@ void damage(Dice &d, Slices &s, const Situation &now) {
     else if (way < 78) s.books = brokenBooks(d, now.books);
     else if (way < 82) s.providers = damagedProviders(d, now.books);
     else if (way < 86) s.providers = brokenProviders(d, now.books);
-    else if (way < 93) s.tray.resize(d.pick(std::vector<size_t>{0, 1, 24, 63 * 24, 63 * 24 + 23, 64 * 24, 64 * 24 + 1, 100 * 24}));
-    else s.R = d.chance(60) ? d.between(7, 9) : d.chance(50) ? d.next() : uint64_t(1) << d.between(3, 63);
+    else if (way < 93) s.tray.resize(d.pick(trayLengths));
+    else s.R = d.chance(60) ? d.between(MOST_RETRIES, MOST_RETRIES + 2) : d.chance(50) ? d.next() : uint64_t(1) << d.between(3, 63);
     if (way < 86 && d.chance(8)) s.books = brokenBooks(d, now.books);
     if (way < 86 && d.chance(8)) s.providers = brokenProviders(d, now.books);
 }
@@ -190,10 +201,12 @@ bool compareFaults(const Slices &s) {
     Fault table = {t.clause, t.place, t.second}, books = {b.clause, b.place, b.second};
     Fault table2 = tableFault(s.table.data(), s.table.size(), s.providers.data(), s.providers.size(), s.books.data(), s.books.size());
     Fault books2 = booksFault(s.providers.data(), s.providers.size(), s.books.data(), s.books.size());
-    tally.tableFaults[table2.clause]++, tally.booksFaults[books2.clause]++;
+    bool counted = table2.clause <= TABLE_CLAUSES && books2.clause <= BOOKS_CLAUSES;
+    tally.tableFaults[std::min<uint64_t>(table2.clause, TABLE_CLAUSES + 1)]++;
+    tally.booksFaults[std::min<uint64_t>(books2.clause, BOOKS_CLAUSES + 1)]++;
     const char *what = !(table == table2) ? "table_fault" : !(books == books2) ? "books_fault"
         : kept.table != s.table || kept.providers != s.providers || kept.books != s.books ? "a call that says where wrote"
-        : verdictFault(kept, table, books);
+        : !counted ? "a clause that tests/sizes.h does not count" : verdictFault(kept, table, books);
     if (!what) return true;
     report(what, s, Bytes());
     printFault("model, table", table2), printFault("library, table", table);
@@ -223,7 +236,7 @@ bool recordsAgree(const Bytes &bytes, const Fields &f, size_t places, size_t len
     uint8_t nothing = 0;
     uint8_t said = lupinenblatt_record_read(bytes.empty() ? &nothing : bytes.data(), bytes.size(), fields.data(), places);
     std::optional<Fields> read = readRecord(bytes.data(), bytes.size());
-    if (places != 10) read = std::nullopt;
+    if (places != FIELDS) read = std::nullopt;
     if (read) std::copy(read->begin(), read->end(), fields2.begin());
     if (said != (read ? DONE : MALFORMED) || fields != fields2) return false;
     Bytes out(std::max<size_t>(length, 1), 0xa5), out2 = out;
@@ -237,11 +250,11 @@ void compareRecords(Dice &d, const Event &e) {
     tally.records++;
     Fields f = fieldsOf(e);
     if (d.chance(50)) {  // one field too wide or otherwise odd
-        size_t i = d.below(10);
-        f[i] = d.chance(40) ? f[i] + (uint64_t(1) << WIDTHS[i]) : d.chance(50) ? uint64_t(1) << d.below(64) : d.below(101);
+        size_t i = d.below(FIELDS);
+        f[i] = d.chance(40) ? f[i] + (uint64_t(1) << WIDTHS[i]) : d.chance(50) ? uint64_t(1) << d.below(64) : d.below(LAST_CAUSE + 2);
     }
     Bytes bytes = d.chance(50) ? packEvent(e) : damagedRecord(d, e);
-    size_t places = d.chance(90) ? 10 : d.below(13), length = d.chance(85) ? 24 : d.below(50);
+    size_t places = d.chance(90) ? FIELDS : d.below(FIELDS + 3), length = d.chance(85) ? RECORD : d.below(2 * RECORD + 2);
     if (recordsAgree(bytes, f, places, length)) return;
     tally.differ++;
     std::printf("DIFFERENCE %llu: record %s read to %zu places, or fields", (unsigned long long)tally.differ,
@@ -255,7 +268,7 @@ void compareRecords(Dice &d, const Event &e) {
 
 size_t anyFreeRows(Dice &d) {
     uint64_t way = d.below(100);
-    return way < 8 ? 0 : way < 16 ? 1 : way < 97 ? d.between(2, 25) : way < 99 ? 256 : 4096;
+    return way < 8 ? 0 : way < 16 ? 1 : way < 97 ? d.between(2, 25) : way < 99 ? 256 : MOST_ROWS;
 }
 
 void runSequence(Dice &d) {
@@ -296,7 +309,7 @@ struct Trace {
 bool runTrace(const Situation &s, Slices slices, const std::vector<Event> &events, const std::vector<size_t> &order, Trace &trace) {
     std::optional<Table> table = s.table;
     std::optional<Books> books = s.books;
-    trace.outcomes.assign(events.size(), 99);
+    trace.outcomes.assign(events.size(), OUTCOMES);
     for (size_t i : order) {
         Result model;
         lupinenblatt_answer library;
@@ -355,6 +368,7 @@ void runExchange(Dice &d) {
 struct ModelRan {
     uint64_t outcome = UNSOUND, events = 0, messages = 0;
     Bytes table, tray, outcomes;
+    bool counted = true;
 };
 
 ModelRan modelRun(const Slices &s, const Bytes &events, const Bytes &outcomes) {
@@ -362,7 +376,7 @@ ModelRan modelRun(const Slices &s, const Bytes &events, const Bytes &outcomes) {
     m.table = s.table, m.tray = s.tray, m.outcomes = outcomes;
     std::optional<Table> table = unpackTable(s.table.data(), s.table.size());
     std::optional<Books> books = unpackBooks(s.providers.data(), s.providers.size(), s.books.data(), s.books.size());
-    bool good = table && sound(*table) && books && sound(*books) && s.R <= 7 && s.tray.size() / MESSAGE >= PLACES;
+    bool good = table && sound(*table) && books && sound(*books) && s.R <= MOST_RETRIES && s.tray.size() / MESSAGE >= PLACES;
     if (!good || outcomes.size() < events.size() / RECORD * 2) return m;
     m.outcome = events.size() % RECORD == 0 ? DONE : MALFORMED;
     if (m.outcome != DONE) return m;
@@ -373,7 +387,7 @@ ModelRan modelRun(const Slices &s, const Bytes &events, const Bytes &outcomes) {
         packTray(r.messages, m.tray.data() + m.messages * MESSAGE);
         m.outcomes[2 * m.events] = uint8_t(r.outcome), m.outcomes[2 * m.events + 1] = uint8_t(r.messages.size());
         m.events++, m.messages += r.messages.size();
-        tally.outcomes[std::min<int>(events[from], 16)][r.outcome]++;
+        m.counted = counts(events[from], r.outcome) && m.counted;
     }
     packTable(*table, m.table);
     return m;
@@ -391,7 +405,7 @@ bool compareRun(Slices &s, const Bytes &events, Bytes outcomes, uint64_t &done) 
     const char *what = a.outcome != m.outcome ? "run: outcome" : a.events != m.events ? "run: events done"
         : a.messages != m.messages ? "run: messages" : outcomes != m.outcomes ? "run: outcome slice" : s.table != m.table ? "run: table" : s.tray != m.tray ? "run: tray"
         : s.providers != before.providers || s.books != before.books || events2 != events ? "run: a slice that is only read was written to"
-        : nullptr;
+        : !m.counted ? UNCOUNTED : nullptr;
     if (!what) return true;
     report(what, before, events);
     std::printf("model: outcome %llu, %llu events, %llu messages; library: outcome %llu, %llu events, %llu messages; outcome slice of %zu bytes\n",
@@ -488,20 +502,21 @@ void runFlows() {
 }
 
 void printTally() {
+    uint64_t sums[OUTCOMES + 1] = {}, all = 0;
+    for (size_t k = 0; k < KINDS + 2; k++)
+        for (size_t o = 0; o <= OUTCOMES; o++) sums[o] += tally.outcomes[k][o], all += tally.outcomes[k][o];
+    size_t columns = sums[OUTCOMES] != 0 ? OUTCOMES + 1 : OUTCOMES;  // the last is shown where there is something in it
     std::printf("kind/outcome");
-    for (int o = 0; o < 15; o++) std::printf("%9d", o);
-    std::printf("\n");
-    uint64_t sums[16] = {}, all = 0;
-    for (int k = 0; k < 17; k++) {
-        std::printf(k == 0 || k == 16 ? "no kind     " : "%-12d", k);
-        for (int o = 0; o < 15; o++) {
-            sums[o] += tally.outcomes[k][o], all += tally.outcomes[k][o];
-            std::printf("%9llu", (unsigned long long)tally.outcomes[k][o]);
-        }
+    for (size_t o = 0; o < OUTCOMES; o++) std::printf("%9zu", o);
+    std::printf(columns > OUTCOMES ? "    other\n" : "\n");
+    for (size_t k = 0; k < KINDS + 2; k++) {
+        if (k == 0 || k > KINDS) std::printf("no kind     ");
+        else std::printf("%-12zu", k);
+        for (size_t o = 0; o < columns; o++) std::printf("%9llu", (unsigned long long)tally.outcomes[k][o]);
         std::printf("\n");
     }
     std::printf("all         ");
-    for (int o = 0; o < 15; o++) std::printf("%9llu", (unsigned long long)sums[o]);
+    for (size_t o = 0; o < columns; o++) std::printf("%9llu", (unsigned long long)sums[o]);
     std::printf("\n%.1f%% done; %llu records compared; %llu neighbours exchanged; %llu checks; %llu runs, %llu of them stopped by the tray\n",
                 100.0 * double(sums[0]) / double(all ? all : 1), (unsigned long long)tally.records, (unsigned long long)tally.exchanged,
                 (unsigned long long)tally.checks, (unsigned long long)tally.runs, (unsigned long long)tally.stops);
@@ -517,10 +532,11 @@ bool printFaults(bool enough) {
         std::printf("%10llu%s", (unsigned long long)count, rare ? " (fewer than 50)" : "");
     };
     std::printf("where         table     books\n");
-    for (int n = 0; n < 33; n++) {
-        std::printf("%-9d", n);
+    static_assert(BOOKS_CLAUSES <= TABLE_CLAUSES, "a line for each number of either");
+    for (size_t n = 0; n <= TABLE_CLAUSES; n++) {
+        std::printf("%-9zu", n);
         seen(tally.tableFaults[n]);
-        if (n < 17) seen(tally.booksFaults[n]);
+        if (n <= BOOKS_CLAUSES) seen(tally.booksFaults[n]);
         std::printf("\n");
     }
     return good;

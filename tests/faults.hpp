@@ -98,8 +98,6 @@ inline Fault providersFault(const uint8_t *providers, size_t length) {
     return {};
 }
 
-constexpr size_t CODES = 1024, FILTERS = 1024, SPLITS = 64;
-
 // A free place of a list is zero.
 inline bool usedPlace(const uint8_t *list, size_t place, size_t width) { return !allZero(list + (place - 1) * width, width); }
 

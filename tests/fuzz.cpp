@@ -4,10 +4,10 @@
 //
 // Each slice lies alone in memory, at any start: guard bytes stand before and behind it, and where it ends or begins a page, the next page
 // may not be touched at all, not even read. A fault is: a byte changed by a refusal, or outside a slice, or of a slice that is only read, or
-// of the tray behind its messages; an outcome above 14; outcome 1 or 2 where the model's checks say otherwise; outcome 0 with an unsound
-// table left or more than 63 messages. Of many events in one call the same, and that it stops where the tray says so. Of the checks and of the
-// calls that say where something is unsound: another answer than the model's, anything written. What an accepted event should do is asked by
-// compare, not here.
+// of the tray behind its messages; an outcome that is none; outcome 1 or 2 where the model's checks say otherwise; outcome 0 with an
+// unsound table left or more messages than an event has. Of many events in one call the same, and that it stops where the tray says so. Of
+// the checks and of the calls that say where something is unsound: another answer than the model's, anything written. What an accepted
+// event should do is asked by compare, not here.
 #include <csignal>
 #include <cstdio>
 #include <cstring>
@@ -27,9 +27,9 @@ uint64_t seed = 1, input = 1, faults = 0;
 
 constexpr uint8_t GUARD = 0xa5;
 
-// Memory for one slice between two pages that may not be touched.
+// Memory for one slice between two pages that may not be touched; the longest slice is a table with some rows too many.
 class Place {
-    static constexpr size_t ROOM = 352256, EDGE = 256;
+    static constexpr size_t ROOM = (MOST_ROWS + 300) * ROW, EDGE = 256;
     size_t page = size_t(sysconf(_SC_PAGESIZE)), room = (ROOM + page - 1) / page * page;
     uint8_t *from;
     uint8_t *at = nullptr;
@@ -43,6 +43,7 @@ class Place {
         std::memset(from, GUARD, room);
     }
     uint8_t *lay(Dice &d, const Bytes &bytes) {
+        if (bytes.size() > room) std::puts("fuzz: a slice for which there is no room"), std::exit(2);
         before = bytes;
         size_t slack = room - bytes.size(), middle = EDGE + d.below(64);
         uint64_t way = d.below(3);
@@ -125,7 +126,7 @@ void wild(Dice &d, Input &in) {
         in.providers.assign(d.below(70), each);
     }
     if (which == 3) in.event = anyBytes(d, d.chance(80) ? RECORD : d.below(60));
-    if (which == 4) in.table.assign(ROW * (d.chance(50) ? 4097 : 4096) - (d.chance(20) ? 1 : 0), 0);
+    if (which == 4) in.table.assign(ROW * (d.chance(50) ? MOST_ROWS + 1 : MOST_ROWS) - (d.chance(20) ? 1 : 0), 0);
 }
 
 Input makeInput(Dice &d, const Situation &s) {
@@ -158,7 +159,7 @@ struct Places { Place table, providers, books, event, tray, outcomes; };
 bool soundInput(const Input &in) {
     std::optional<Table> t = unpackTable(in.table.data(), in.table.size());
     std::optional<Books> b = unpackBooks(in.providers.data(), in.providers.size(), in.books.data(), in.books.size());
-    return t && sound(*t) && b && sound(*b) && in.R <= 7 && in.tray.size() / MESSAGE >= PLACES;
+    return t && sound(*t) && b && sound(*b) && in.R <= MOST_RETRIES && in.tray.size() / MESSAGE >= PLACES;
 }
 
 bool soundAfter(const Bytes &table) {
@@ -171,7 +172,11 @@ void printInput(const Input &in) {
                 shortHex(in.table).c_str(), shortHex(in.providers).c_str(), shortHex(in.books).c_str(), shortHex(in.tray).c_str());
 }
 
-void checkStep(Dice &d, Places &p, const Input &in, uint64_t outcomes[16]) {
+const std::string ABOVE = "an outcome above " + std::to_string(OUTCOMES - 1);
+const std::string MORE = "more than " + std::to_string(MOST_MESSAGES) + " messages";
+
+// Counts the outcome; the last place is for one that is none, which is a fault.
+void checkStep(Dice &d, Places &p, const Input &in, uint64_t (&outcomes)[OUTCOMES + 1]) {
     uint8_t *table = p.table.lay(d, in.table), *providers = p.providers.lay(d, in.providers), *books = p.books.lay(d, in.books);
     uint8_t *event = p.event.lay(d, in.event), *tray = p.tray.lay(d, in.tray);
     lupinenblatt_answer a = in.R == 0 && d.chance(50)
@@ -179,14 +184,14 @@ void checkStep(Dice &d, Places &p, const Input &in, uint64_t outcomes[16]) {
                                     in.tray.size())
         : lupinenblatt_step(table, in.table.size(), providers, in.providers.size(), books, in.books.size(), in.R, event, in.event.size(), tray,
                             in.tray.size());
-    outcomes[std::min<uint64_t>(a.outcome, 15)]++;
+    outcomes[std::min<uint64_t>(a.outcome, OUTCOMES)]++;
     const char *what = nullptr;
-    if (a.outcome > 14) what = "an outcome above 14";
+    if (a.outcome >= OUTCOMES) what = ABOVE.c_str();
     else if (a.outcome != 0 && a.count != 0) what = "a refusal with messages";
     else if (a.outcome != 0 && !p.table.same(0)) what = "a refusal changed the table";
     else if (a.outcome != 0 && !p.tray.same(0)) what = "a refusal changed the tray";
     else if (!p.providers.same(0) || !p.books.same(0) || !p.event.same(0)) what = "a slice that is only read was changed";
-    else if (a.count > 63) what = "more than 63 messages";
+    else if (a.count > MOST_MESSAGES) what = MORE.c_str();
     else if (a.outcome == 0 && !p.tray.same(a.count * MESSAGE)) what = "the tray was changed behind its messages";
     bool good = soundInput(in), formed = readRecord(in.event.data(), in.event.size()).has_value();
     if (good != (a.outcome != 1)) what = good ? "outcome 1 though everything is sound" : "not outcome 1 though something is unsound";
@@ -229,10 +234,11 @@ const char *runFault(Places &p, const Input &in, const lupinenblatt_ran &a, cons
     uint64_t messages = 0;
     if (a.events > count || a.messages > places) return "run: more events than there are, or more messages than places";
     for (size_t i = 0; i < a.events; i++) {
-        if (places - messages < PLACES) return "run: an event with fewer than 64 places left";
+        if (places - messages < PLACES) return "run: an event with too few places left";
         uint8_t outcome = outcomes[2 * i], sent = outcomes[2 * i + 1];
         bool formed = readRecord(in.event.data() + i * RECORD, RECORD).has_value();
-        if (outcome > 14 || outcome == 1 || sent > 63 || (outcome != 0 && sent != 0)) return "run: an outcome or count that no event has";
+        bool known = outcome < OUTCOMES && outcome != 1 && sent <= MOST_MESSAGES;
+        if (!known || (outcome != 0 && sent != 0)) return "run: an outcome or count that no event has";
         if (formed != (outcome != 2)) return "run: outcome 2 and the record's form disagree";
         messages += sent;
     }
@@ -301,6 +307,7 @@ void checkFaults(Dice &d, Places &p, const Input &in) {
     const char *what = nullptr;
     if (!(Fault{a.clause, a.place, a.second} == t)) what = "table_fault answers wrongly";
     else if (!(Fault{b.clause, b.place, b.second} == l)) what = "books_fault answers wrongly";
+    else if (t.clause > TABLE_CLAUSES || l.clause > BOOKS_CLAUSES) what = "a clause that is none";
     else if (!p.table.same(0) || !p.providers.same(0) || !p.books.same(0)) what = "a call that says where wrote";
     bool guarded = true;
     for (Place *place : {&p.table, &p.providers, &p.books}) guarded = place->guarded() && guarded;
@@ -316,13 +323,13 @@ void checkFaults(Dice &d, Places &p, const Input &in) {
 
 // The record's two calls: 0 or 2, nothing written with 2, nothing outside. A guard number stands before and behind the fields.
 void checkRecord(Dice &d, Places &p, const Input &in) {
-    size_t length = d.chance(70) ? RECORD : d.below(60), places = d.chance(80) ? 10 : d.below(20);
+    size_t length = d.chance(70) ? RECORD : d.below(60), places = d.chance(80) ? FIELDS : d.below(2 * FIELDS);
     uint8_t *event = p.event.lay(d, in.event);
     const uint64_t blankField = 0x0123456789abcdef;
     std::vector<uint64_t> fields(places + 2, blankField);
     uint8_t said = lupinenblatt_record_read(event, in.event.size(), fields.data() + 1, places);
     bool kept = std::all_of(fields.begin(), fields.end(), [=](uint64_t f) { return f == blankField; });
-    bool formed = readRecord(in.event.data(), in.event.size()).has_value() && places == 10;
+    bool formed = readRecord(in.event.data(), in.event.size()).has_value() && places == FIELDS;
     const char *what = nullptr;
     if (said != (formed ? 0 : 2)) what = "record_read answers wrongly";
     else if (said == 2 && !kept) what = "record_read refused and wrote";
@@ -333,7 +340,7 @@ void checkRecord(Dice &d, Places &p, const Input &in) {
     std::optional<Event> e = unpackEvent(in.event.data(), in.event.size());
     for (uint64_t &field : f) field = d.next() >> d.below(64);
     if (e && d.chance(80)) f = fieldsOf(*e);
-    if (d.chance(30)) f[d.below(10)] = d.next() >> d.below(64);
+    if (d.chance(30)) f[d.below(FIELDS)] = d.next() >> d.below(64);
     Bytes blank(length, 0x3c);
     uint8_t *out = p.tray.lay(d, blank);
     said = lupinenblatt_record_write(f[0], f[1], f[2], f[3], f[4], f[5], f[6], f[7], f[8], f[9], out, length);
@@ -351,7 +358,7 @@ void checkRecord(Dice &d, Places &p, const Input &in) {
 }  // namespace
 
 int main(int argc, char **argv) {
-    uint64_t wanted = argc > 1 ? std::strtoull(argv[1], nullptr, 10) : 400000, outcomes[16] = {}, done = 0;
+    uint64_t wanted = argc > 1 ? std::strtoull(argv[1], nullptr, 10) : 400000, outcomes[OUTCOMES + 1] = {}, done = 0;
     seed = argc > 2 ? std::strtoull(argv[2], nullptr, 10) : 1;
     input = argc > 3 ? std::strtoull(argv[3], nullptr, 10) : 1;
     std::signal(SIGSEGV, touched);
@@ -381,8 +388,9 @@ int main(int argc, char **argv) {
 #endif
         else checkStep(own, places, in, outcomes);
     }
-    std::printf("outcomes 0 to 14:");
-    for (int i = 0; i < 15; i++) std::printf(" %llu", (unsigned long long)outcomes[i]);
+    std::printf("outcomes 0 to %zu:", OUTCOMES - 1);
+    for (size_t i = 0; i < OUTCOMES; i++) std::printf(" %llu", (unsigned long long)outcomes[i]);
+    if (outcomes[OUTCOMES] != 0) std::printf(", other: %llu", (unsigned long long)outcomes[OUTCOMES]);
     std::printf("\n%llu inputs, %llu faults\n", (unsigned long long)done, (unsigned long long)faults);
     return faults == 0 ? 0 : 1;
 }

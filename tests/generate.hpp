@@ -37,7 +37,7 @@ struct Situation {
 inline Code anyCode(Dice &d) { return d.between(2, 9) * 100000 + d.below(100) * 1000 + d.between(2, 9) * 100 + d.below(100); }
 inline uint64_t anyTenDigits(Dice &d) { return anyCode(d) * 10000 + d.below(10000); }
 
-inline Provider anyPresent(Dice &d, const Situation &s) { return s.present.empty() ? d.between(1, 63) : d.pick(s.present); }
+inline Provider anyPresent(Dice &d, const Situation &s) { return s.present.empty() ? d.between(1, PROVIDERS) : d.pick(s.present); }
 inline Time after(Time t, uint64_t more) { return std::max<Time>(1, std::min<Time>(LAST_TIME, t + more)); }
 
 // ---- Books ----
@@ -48,16 +48,16 @@ inline void makeProviders(Dice &d, Situation &s) {
     uint64_t shape = d.below(100), localSms = 80;
     if (shape < 25) present = {1, 2, 3}, localSms = 100;
     else if (shape < 60) for (uint64_t n = d.between(3, 9); present.size() < n;) present.insert(d.between(1, 12));
-    else if (shape < 70) for (uint64_t n = d.between(30, 63); present.size() < n;) present.insert(d.between(1, 63));
+    else if (shape < 70) for (uint64_t n = d.between(30, PROVIDERS); present.size() < n;) present.insert(d.between(1, PROVIDERS));
     else if (shape < 78) present = {1, 2, 5, 9}, localSms = 0;
-    else if (shape < 92) present = {1, 2, 21, 22, 42, 43, 62, 63};
-    else if (shape < 98) for (uint64_t n = d.between(2, 6); present.size() < n;) present.insert(d.between(1, 63));
+    else if (shape < 92) present = {1, 2, 21, 22, 42, 43, PROVIDERS - 1, PROVIDERS};
+    else if (shape < 98) for (uint64_t n = d.between(2, 6); present.size() < n;) present.insert(d.between(1, PROVIDERS));
     else if (d.chance(70)) {
-        for (Provider p = 1; p <= 63; p++) present.insert(p);
+        for (Provider p = 1; p <= PROVIDERS; p++) present.insert(p);
         localSms = 100;
     }
     Provider last = present.empty() ? 0 : *present.rbegin();
-    s.books.providers.resize(d.chance(50) ? 63 : d.between(last, 63));
+    s.books.providers.resize(d.chance(50) ? PROVIDERS : d.between(last, PROVIDERS));
     for (Provider p : present) {
         bool runs = d.chance(localSms);
         s.books.providers[p - 1] = {true, runs};
@@ -74,7 +74,7 @@ inline void makeLists(Dice &d, Situation &s, std::vector<Code> &homes) {
     uint64_t filterShare = d.pick(std::vector<uint64_t>{0, 15, 30, 60, 90});
     for (uint64_t n = d.between(1, 3); homes.size() < n;) homes.push_back(anyCode(d));
     auto pair = [&](Code a, Code b) {
-        if (a == b || paired.count(a) || paired.count(b) || s.books.splits.size() == 64) return;
+        if (a == b || paired.count(a) || paired.count(b) || s.books.splits.size() == SPLITS) return;
         paired.insert(a), paired.insert(b);
         s.books.splits.push_back(d.chance(50) ? SplitEntry{a, b} : SplitEntry{b, a});
     };
@@ -83,7 +83,7 @@ inline void makeLists(Dice &d, Situation &s, std::vector<Code> &homes) {
         if (d.chance(92) && !s.present.empty()) codes[homes[i]] = d.pick(s.present);
         if (d.chance(50)) pair(homes[i], d.chance(30) ? d.pick(homes) : anyCode(d));
     }
-    for (uint64_t n = brim ? 64 : d.below(5); n > 0; n--) pair(anyCode(d), anyCode(d));
+    for (uint64_t n = brim ? SPLITS : d.below(5); n > 0; n--) pair(anyCode(d), anyCode(d));
     for (size_t i = s.books.splits.size(); i > 1; i--) std::swap(s.books.splits[i - 1], s.books.splits[d.below(i)]);
     for (Provider p : s.present)
         for (Code home : homes) {
@@ -94,8 +94,8 @@ inline void makeLists(Dice &d, Situation &s, std::vector<Code> &homes) {
                 if (d.chance(filterShare)) filters.insert({p, code});
         }
     if (!s.present.empty()) {
-        for (uint64_t n = brim ? 1024 : d.below(6); codes.size() < n;) codes[anyCode(d)] = d.pick(s.present);
-        for (uint64_t n = brim ? 1024 : d.below(6); filters.size() < n;) filters.insert({d.pick(s.present), anyCode(d)});
+        for (uint64_t n = brim ? CODES : d.below(6); codes.size() < n;) codes[anyCode(d)] = d.pick(s.present);
+        for (uint64_t n = brim ? FILTERS : d.below(6); filters.size() < n;) filters.insert({d.pick(s.present), anyCode(d)});
     }
     for (const auto &[code, owner] : codes) s.books.codes.push_back({code, owner});
     for (const auto &[provider, code] : filters) s.books.filters.push_back({provider, code});
@@ -110,17 +110,17 @@ inline Systems anySystems(Dice &d, const Situation &s, const Systems &a, const S
     for (Provider p : s.systems)
         if (d.chance(share) && !a.count(p) && !b.count(p)) out.insert(p);
     while (out.size() < atLeast || d.chance(5)) {
-        Provider p = d.chance(70) && !s.systems.empty() ? d.pick(s.systems) : d.between(1, 63);
+        Provider p = d.chance(70) && !s.systems.empty() ? d.pick(s.systems) : d.between(1, PROVIDERS);
         if (!a.count(p) && !b.count(p)) out.insert(p);
-        else if (a.size() + b.size() + out.size() >= 60) break;
+        else if (a.size() + b.size() + out.size() + 3 >= PROVIDERS) break;
     }
     return out;
 }
 
 // The sides of a version in this status, also combinations that no event makes.
 inline void makeSides(Dice &d, const Situation &s, Version &v) {
-    v.newProvider = d.chance(95) ? anyPresent(d, s) : d.between(1, 63);
-    do v.oldProvider = d.chance(80) && s.present.size() > 1 ? anyPresent(d, s) : d.between(1, 63);
+    v.newProvider = d.chance(95) ? anyPresent(d, s) : d.between(1, PROVIDERS);
+    do v.oldProvider = d.chance(80) && s.present.size() > 1 ? anyPresent(d, s) : d.between(1, PROVIDERS);
     while (v.oldProvider == v.newProvider);
     bool mustNew = v.status == CANCEL_PENDING || (v.status >= SENDING && v.status <= OLD);
     bool mustOld = v.status == CANCEL_PENDING || v.status == CONFLICT;
@@ -130,7 +130,7 @@ inline void makeSides(Dice &d, const Situation &s, Version &v) {
     if (v.oldCreated) {
         v.oldDue = after(s.base, d.below(30));
         v.authorization = d.chance(v.status == CONFLICT ? 20 : 65) ? YES : NO;
-        if (v.authorization == NO) v.cause = d.between(1, 99);
+        if (v.authorization == NO) v.cause = d.between(1, LAST_CAUSE);
     }
     if (v.status == CANCEL_PENDING) v.canceller = d.chance(50) ? NEW_SIDE : OLD_SIDE;
     v.windowRanOut = d.chance(25);
@@ -150,7 +150,7 @@ inline Version makeVersion(Dice &d, const Situation &s, Tn tn, uint64_t number, 
     if (status == SENDING) {
         v.start = after(s.base, d.below(30));
         for (Provider p : v.waiting)
-            if (d.chance(35)) v.retries[p] = d.between(1, 7);
+            if (d.chance(35)) v.retries[p] = d.between(1, MOST_RETRIES);
     }
     bool needsConfirmed = v.live && v.purpose == ACTIVATE;
     if (sets && !(needsConfirmed && v.confirmed.empty())) v.failed = anySystems(d, s, v.confirmed, v.waiting, 0);
@@ -161,18 +161,18 @@ inline Version makeVersion(Dice &d, const Situation &s, Tn tn, uint64_t number, 
 inline void makeVersionsOf(Dice &d, Situation &s, Tn tn, std::vector<Version> &out) {
     bool live = false, sending = false, workedOne = false;
     size_t first = out.size();
-    uint64_t count = d.below(6), number = d.chance(12) ? 65535 - 3 * count + d.below(3) : 0;
+    uint64_t count = d.below(6), number = d.chance(12) ? LAST_VERSION - 3 * count + d.below(3) : 0;
     for (uint64_t i = 0; i < count; i++) {
-        number += i + 1 == count && d.chance(10) ? 65535 - number : d.between(1, 3);
-        if (number > 65535) break;
-        Status status = Status(d.below(9));
+        number += i + 1 == count && d.chance(10) ? LAST_VERSION - number : d.between(1, 3);
+        if (number > LAST_VERSION) break;
+        Status status = Status(d.below(STATUSES));
         bool isWorked = status <= CANCEL_PENDING, needsLive = status == PARTIAL_FAILURE || status == ACTIVE;
         if ((isWorked && workedOne) || (needsLive && live) || (status == SENDING && sending)) status = d.chance(50) ? OLD : CANCELED;
         out.push_back(makeVersion(d, s, tn, number, status, !live));
         live = live || out.back().live;
         sending = sending || out.back().status == SENDING;
         workedOne = workedOne || worked(out.back());
-        if (number == 65535) break;
+        if (number == LAST_VERSION) break;
     }
     // Mostly the worked version is taken from the current provider, so that creates come as far as 9.
     Provider current = ownerOf(s.books, codeOf(tn));
@@ -193,9 +193,9 @@ inline void makeTable(Dice &d, Situation &s, const std::vector<Code> &homes, siz
     if (d.chance(1) && d.chance(30))
         while (tns.size() < 1800) tns.insert(Tn{anyTenDigits(d)});
     for (Tn tn : tns) makeVersionsOf(d, s, tn, s.table.used);
-    size_t most = d.chance(50) ? 4096 : 4000;
+    size_t most = d.chance(50) ? MOST_ROWS : MOST_ROWS - 96;
     if (s.table.used.size() > most) s.table.used.resize(most);
-    s.table.freeRows = std::min<size_t>(freeRows, 4096 - s.table.used.size());
+    s.table.freeRows = std::min<size_t>(freeRows, MOST_ROWS - s.table.used.size());
 }
 
 inline Situation makeSituation(Dice &d, size_t freeRows) {
@@ -203,7 +203,7 @@ inline Situation makeSituation(Dice &d, size_t freeRows) {
     std::vector<Code> homes;
     makeProviders(d, s);
     makeLists(d, s, homes);
-    s.R = d.chance(40) ? 0 : d.below(8);
+    s.R = d.chance(40) ? 0 : d.below(MOST_RETRIES + 1);
     s.base = d.pick(std::vector<Time>{1, 1, 1000, 1700000000, LAST_TIME - 60, LAST_TIME - 5000});
     makeTable(d, s, homes, freeRows);
     if (!sound(s.books) || !sound(s.table)) {
@@ -235,7 +235,7 @@ inline Event filled(Dice &d, const Situation &s, Event e, Time atLeast) {
     if (named.lrn) e.lrn.digits = anyTenDigits(d);
     if (named.due) e.due = d.chance(90) ? after(e.time, d.below(6)) : d.between(1, LAST_TIME);
     if (named.mark) e.mark = d.chance(65) ? 1 : 2;
-    if (named.cause && e.mark == 2) e.cause = d.between(1, 99);
+    if (named.cause && e.mark == 2) e.cause = d.between(1, LAST_CAUSE);
     if (named.other && e.other == 0) e.other = anyPresent(d, s);
     if (e.kind == SILENCE) e.sender = 0;
     return e;
@@ -248,7 +248,7 @@ inline Event aCreate(Dice &d, const Situation &s, Tn tn) {
     Provider oldSide = v ? v->oldProvider : currentProvider(s.table, s.books, tn), newSide = v ? v->newProvider : anyPresent(d, s);
     if (oldSide == 0) oldSide = anyPresent(d, s);
     for (int i = 0; i < 8 && newSide == oldSide; i++) newSide = anyPresent(d, s);
-    if (newSide == oldSide) newSide = oldSide % 63 + 1;
+    if (newSide == oldSide) newSide = oldSide % PROVIDERS + 1;
     bool byNew = v ? (!v->newCreated || (v->oldCreated && d.chance(50))) : d.chance(60);
     e.kind = byNew ? NEW_CREATES : OLD_CREATES;
     e.sender = byNew ? newSide : oldSide;
@@ -317,7 +317,7 @@ inline Provider anySender(Dice &d, const Situation &s, const Version *v) {
     case 0: return NPAC;
     case 1: if (v) return v->newProvider; break;
     case 2: if (v) return v->oldProvider; break;
-    case 3: return d.between(1, 63);
+    case 3: return d.between(1, PROVIDERS);
     default: break;
     }
     return anyPresent(d, s);
@@ -334,8 +334,8 @@ inline Provider rightSender(Dice &d, const Version &v, uint64_t kind) {
 // A well-formed event of any kind for a version that exists, from any sender or from the right one.
 inline Event anyEvent(Dice &d, const Situation &s, Tn tn) {
     std::vector<const Version *> versions = versionsOf(s.table, tn);
-    uint64_t kind = d.between(1, 15);
-    if (versions.empty() || kind <= 2) return aCreate(d, s, tn);
+    uint64_t kind = d.between(1, KINDS);
+    if (versions.empty() || kind <= OLD_CREATES) return aCreate(d, s, tn);
     const Version &v = *d.pick(versions);
     if (kind == REPLY || kind == SILENCE) return anAnswer(d, s, v, anyPresent(d, s));
     Provider sender = d.chance(60) ? rightSender(d, v, kind) : anySender(d, s, &v);
@@ -359,13 +359,13 @@ inline Event spoilt(Dice &d, const Situation &s, Event e) {
         break;
     }
     case 2:
-        if (named.version) e.version = d.chance(50) ? e.version % 65535 + 1 : d.between(1, 65535);
+        if (named.version) e.version = d.chance(50) ? e.version % LAST_VERSION + 1 : d.between(1, LAST_VERSION);
         break;
     case 3: case 4:
         if (named.sender) e.sender = anySender(d, s, v);
         break;
     case 5:
-        if (named.other) e.other = d.chance(60) ? anyPresent(d, s) : d.between(1, 63);
+        if (named.other) e.other = d.chance(60) ? anyPresent(d, s) : d.between(1, PROVIDERS);
         break;
     case 7:  // the worked version once more: a second create, a second cancel, a second window
         v = workedVersion(s.table, e.tn);
@@ -405,25 +405,26 @@ inline Bytes damagedRecord(Dice &d, const Event &e) {
     Fields f = fieldsOf(e);
     switch (d.below(5)) {
     case 0: {
-        size_t i = d.below(10);
-        static const uint64_t odd[] = {0, 1, 2, 3, 16, 63, 64, 99, 100, 127, 255, 65535, 4294967295, 9999999999, 10000000000, 1999999999, 2001999999};
-        f[i] = d.chance(70) ? odd[d.below(17)] : d.next();
+        size_t i = d.below(FIELDS);
+        static const uint64_t odd[] = {0, 1, 2, 3, KINDS + 1, PROVIDERS, PROVIDERS + 1, LAST_CAUSE, LAST_CAUSE + 1, 127, 255, LAST_VERSION,
+                                       LAST_TIME, 9999999999, 10000000000, 1999999999, 2001999999};
+        f[i] = d.chance(70) ? odd[d.below(std::size(odd))] : d.next();
         if (WIDTHS[i] < 64) f[i] &= (uint64_t(1) << WIDTHS[i]) - 1;
         return packFields(f);
     }
-    case 1: return packFields(f, uint64_t(1) << d.below(14));
+    case 1: return packFields(f, uint64_t(1) << d.below(SPARE));
     case 2: {
         Bytes out = packFields(f);
-        out.resize(d.pick(std::vector<size_t>{0, 1, 23, 25, 48}));
+        out.resize(d.pick(std::vector<size_t>{0, 1, RECORD - 1, RECORD + 1, 2 * RECORD}));
         return out;
     }
     case 3: {
-        f[0] = d.chance(80) ? d.below(18) : d.below(256);
+        f[0] = d.chance(80) ? d.below(KINDS + 3) : d.below(256);
         return packFields(f);
     }
     default: {
         Bytes out = packFields(f);
-        size_t bit = d.below(192);
+        size_t bit = d.below(RECORD * 8);
         out[bit / 8] = uint8_t(out[bit / 8] ^ 1u << bit % 8);
         return out;
     }
@@ -432,24 +433,24 @@ inline Bytes damagedRecord(Dice &d, const Event &e) {
 
 // One field of one version set to anything its bits can hold, mostly near what it was.
 inline void damageVersion(Dice &d, Version &v) {
-    Provider p = d.between(1, 63);
+    Provider p = d.between(1, PROVIDERS);
     if (d.chance(60) && !v.waiting.empty()) p = *v.waiting.begin();
     else if (d.chance(60) && !v.confirmed.empty()) p = *v.confirmed.rbegin();
     else if (d.chance(60) && !v.failed.empty()) p = *v.failed.begin();
     auto flip = [&](Systems &set) { if (!set.erase(p)) set.insert(p); };
     auto time = [&](Time &t) { t = d.chance(50) ? 0 : d.between(1, LAST_TIME); };
     switch (d.below(24)) {
-    case 0: case 1: case 2: v.status = Status(d.chance(90) ? d.below(9) : d.below(16)); break;
+    case 0: case 1: case 2: v.status = Status(d.chance(90) ? d.below(STATUSES) : d.below(STATUS_VALUES)); break;
     case 3: v.live = !v.live; break;
     case 4: v.newCreated = !v.newCreated; break;
     case 5: v.oldCreated = !v.oldCreated; break;
-    case 6: v.newProvider = d.chance(40) ? v.oldProvider : d.below(64); break;
-    case 7: v.oldProvider = d.chance(40) ? v.newProvider : d.below(64); break;
+    case 6: v.newProvider = d.chance(40) ? v.oldProvider : d.below(PROVIDERS + 1); break;
+    case 7: v.oldProvider = d.chance(40) ? v.newProvider : d.below(PROVIDERS + 1); break;
     case 8: v.lrn.digits = d.chance(50) ? 0 : d.chance(50) ? v.lrn.digits % 1000000000 : d.below(uint64_t(1) << 34); break;
-    case 9: v.authorization = Authorization(d.below(4)); break;
-    case 10: v.cause = d.chance(50) ? 0 : d.between(98, 101); break;
-    case 11: v.canceller = Side(d.below(4)); break;
-    case 12: case 13: v.purpose = Purpose(d.below(4)); break;
+    case 9: v.authorization = Authorization(d.below(MARKS + 1)); break;
+    case 10: v.cause = d.chance(50) ? 0 : d.between(LAST_CAUSE - 1, LAST_CAUSE + 2); break;
+    case 11: v.canceller = Side(d.below(CANCELLERS + 1)); break;
+    case 12: case 13: v.purpose = Purpose(d.below(PURPOSES)); break;
     case 14: time(v.newDue); break;
     case 15: time(v.oldDue); break;
     case 16: time(v.stamp); break;
@@ -457,8 +458,8 @@ inline void damageVersion(Dice &d, Version &v) {
     case 18: flip(v.confirmed); break;
     case 19: flip(v.waiting); break;
     case 20: flip(v.failed); break;
-    case 21: v.retries[p] = d.between(1, 7); break;
-    case 22: v.number = d.chance(60) ? v.number + 1 - 2 * d.below(2) : d.below(65536); v.number &= 65535; break;
+    case 21: v.retries[p] = d.between(1, MOST_RETRIES); break;
+    case 22: v.number = d.chance(60) ? v.number + 1 - 2 * d.below(2) : d.below(LAST_VERSION + 1); v.number &= LAST_VERSION; break;
     default: v.tn.digits = d.chance(50) ? v.tn.digits + 1 - 2 * d.below(2) : d.below(uint64_t(1) << 34);
     }
 }
@@ -472,7 +473,7 @@ inline void damageJointly(Dice &d, Version &v) {
     if (way == 0 || way == 2) takeNewSide(v);
     if (way == 1 || way == 2) takeOldSide(v);
     if (way < 3) return;
-    v.status = Status(d.below(9));
+    v.status = Status(d.below(STATUSES));
     v.canceller = v.status != CANCEL_PENDING ? NOBODY : d.chance(50) ? NEW_SIDE : OLD_SIDE;
     v.start = v.status == SENDING ? v.stamp : 0;
     v.retries.clear();
@@ -493,10 +494,10 @@ inline uint64_t badDigits(Dice &d, uint64_t n) {
 // One value just beyond its range, where everything else stays as it should be.
 inline void damageEdge(Dice &d, Version &v) {
     for (;;) switch (d.below(9)) {
-    case 0: if (v.status != CANCELED) continue; v.status = Status(d.between(9, 15)); return;
-    case 1: if (v.status != CANCEL_PENDING) continue; v.canceller = Side(3); return;
-    case 2: if (v.authorization != NO) continue; v.cause = d.chance(50) ? 100 : d.between(100, 127); return;
-    case 3: if (v.authorization != YES) continue; v.authorization = Authorization(3); return;
+    case 0: if (v.status != CANCELED) continue; v.status = Status(d.between(STATUSES, STATUS_VALUES - 1)); return;
+    case 1: if (v.status != CANCEL_PENDING) continue; v.canceller = Side(CANCELLERS); return;
+    case 2: if (v.authorization != NO) continue; v.cause = d.chance(50) ? LAST_CAUSE + 1 : d.between(LAST_CAUSE + 1, 127); return;
+    case 3: if (v.authorization != YES) continue; v.authorization = Authorization(MARKS); return;
     case 4: v.number = 0; return;
     case 5: (d.chance(50) ? v.newProvider : v.oldProvider) = 0; return;
     case 6: if (!v.newCreated) continue; v.lrn.digits = badDigits(d, v.lrn.digits); return;
@@ -524,8 +525,8 @@ inline Bytes damagedTable(Dice &d, Table t) {
     } else if (used > 0 && way < 65) {
         size_t i = d.below(used);
         Version copy = t.used[i];
-        copy.number = (copy.number + d.below(3)) & 65535;
-        if (d.chance(30)) copy.status = Status(d.below(9));
+        copy.number = (copy.number + d.below(3)) & LAST_VERSION;
+        if (d.chance(30)) copy.status = Status(d.below(STATUSES));
         t.used.insert(t.used.begin() + long(i) + 1, copy);
         if (t.freeRows > 0) t.freeRows--;
     } else if (used > 1 && way < 72) {
@@ -534,7 +535,7 @@ inline Bytes damagedTable(Dice &d, Table t) {
     }
     packTable(t, out);
     if (way < 72 || out.empty()) {
-        if (out.size() / ROW > 4096) out.resize(4096 * ROW);
+        if (out.size() / ROW > MOST_ROWS) out.resize(MOST_ROWS * ROW);
     } else if (way < 80 && used > 0) {
         size_t i = d.below(used);
         std::fill(out.begin() + long(i * ROW), out.begin() + long((i + 1) * ROW), uint8_t(0));
@@ -545,14 +546,15 @@ inline Bytes damagedTable(Dice &d, Table t) {
         size_t row = d.below(used > 0 ? used : out.size() / ROW), bit = row * ROW * 8 + (d.chance(60) ? unusedBit(d) : d.below(ROW * 8));
         out[bit / 8] = uint8_t(out[bit / 8] ^ 128u >> bit % 8);
     } else {
-        out.resize(d.chance(60) ? out.size() + d.below(81) : d.chance(80) ? out.size() - std::min<size_t>(out.size(), 1 + d.below(79)) : 4097 * ROW, 0);
+        out.resize(d.chance(60) ? out.size() + d.below(ROW + 1)
+                   : d.chance(80) ? out.size() - std::min<size_t>(out.size(), 1 + d.below(ROW - 1)) : (MOST_ROWS + 1) * ROW, 0);
     }
     return out;
 }
 
 inline Bytes damagedProviders(Dice &d, const Books &b) {
     Bytes out = packProviders(b);
-    if (out.empty() || d.chance(15)) out.resize(d.chance(50) ? 64 : d.below(66), 0);
+    if (out.empty() || d.chance(15)) out.resize(d.chance(50) ? PROVIDERS + 1 : d.below(PROVIDERS + 3), 0);
     else if (d.chance(15)) out.resize(d.below(out.size() + 1));
     else out[d.below(out.size())] = uint8_t(d.chance(70) ? d.below(4) : d.below(256));
     return out;
@@ -561,22 +563,22 @@ inline Bytes damagedProviders(Dice &d, const Books &b) {
 // A list of the books out of order, with an equal or odd entry, with a hole; the head not zero; another length.
 inline Bytes damagedBooks(Dice &d, Books b) {
     uint64_t way = d.below(12);
-    if (way == 0 && !b.codes.empty()) b.codes[d.below(b.codes.size())].owner = d.below(64);
+    if (way == 0 && !b.codes.empty()) b.codes[d.below(b.codes.size())].owner = d.below(PROVIDERS + 1);
     if (way == 1 && !b.codes.empty()) b.codes[d.below(b.codes.size())].code = d.chance(50) ? d.below(1000000) : d.pick(b.codes).code;
     if (way == 2 && b.codes.size() > 1) std::swap(b.codes[0], b.codes[1 + d.below(b.codes.size() - 1)]);
-    if (way == 3 && !b.filters.empty()) b.filters[d.below(b.filters.size())].provider = d.below(d.chance(80) ? 64 : 4096);
+    if (way == 3 && !b.filters.empty()) b.filters[d.below(b.filters.size())].provider = d.below(d.chance(80) ? PROVIDERS + 1 : 4096);
     if (way == 4 && !b.filters.empty()) b.filters[d.below(b.filters.size())].code = d.chance(50) ? d.below(1048576) : d.pick(b.filters).code;
     if (way == 5 && b.filters.size() > 1) std::swap(b.filters[0], b.filters[1 + d.below(b.filters.size() - 1)]);
     if (way == 6 && !b.splits.empty()) (d.chance(50) ? b.splits.back().one : b.splits.back().two) = d.chance(50) ? d.pick(b.splits).one : d.below(1000000);
-    if (way == 7 && b.splits.size() < 64) b.splits.push_back({anyCode(d), b.splits.empty() || d.chance(50) ? 0 : d.pick(b.splits).two});
-    if (way == 8 && b.codes.size() < 1024 && !b.codes.empty()) b.codes.push_back(b.codes.back());
+    if (way == 7 && b.splits.size() < SPLITS) b.splits.push_back({anyCode(d), b.splits.empty() || d.chance(50) ? 0 : d.pick(b.splits).two});
+    if (way == 8 && b.codes.size() < CODES && !b.codes.empty()) b.codes.push_back(b.codes.back());
     Bytes out = packBooks(b);
     if (way == 9) {
         size_t list = d.below(3), used = list == 0 ? b.codes.size() : list == 1 ? b.filters.size() : b.splits.size();
         size_t from = list == 0 ? CODES_AT : list == 1 ? FILTERS_AT : SPLITS_AT, width = list == 2 ? 8 : 4;
         if (used > 0) std::fill_n(out.begin() + long(from + d.below(used) * width), width, uint8_t(0));
     }
-    if (way == 10) out[d.chance(30) ? d.below(8) : d.below(BOOKS)] ^= uint8_t(1u << d.below(8));
+    if (way == 10) out[d.chance(30) ? d.below(CODES_AT) : d.below(BOOKS)] ^= uint8_t(1u << d.below(8));
     if (way == 11) out.resize(d.chance(50) ? BOOKS - 1 - d.below(8) : BOOKS + 1 + d.below(8), 0);
     return out;
 }

@@ -5,7 +5,7 @@
 #include <stdio.h>
 #include <string.h>
 
-#include "lupinenblatt.h"
+#include "sizes.h"
 
 static unsigned checks, wrong;
 
@@ -111,7 +111,7 @@ static void tables(void)
     CHECK(r.purpose == LUPINENBLATT_PURPOSE_DISCONNECT && r.new_due == 0x01020304 && r.old_due == 0xf0e0d0c0u);
     CHECK(r.stamp == 0x11121314 && r.start == 0x21222324 && r.confirmed == ((uint64_t)1 << 63 | 2));
     CHECK(r.waiting == ((uint64_t)1 << 22 | 4) && r.failed == (uint64_t)1 << 43);
-    for (unsigned p = 0; p < 64; p++)
+    for (unsigned p = 0; p <= PROVIDERS; p++)
         CHECK(r.retries[p] == (p == 1 ? 7 : p == 21 ? 5 : p == 22 ? 3 : p == 42 ? 1 : p == 43 ? 6 : p == 63 ? 2 : 0));
     r = lupinenblatt_row(free_row, 0);
     memset(&zero, 0, sizeof zero);
@@ -166,14 +166,14 @@ static void naming_is(naming *name, uint64_t first, uint64_t last, const char *n
 
 static void names(void)
 {
-    naming_is(lupinenblatt_outcome_name, 0, 14, "no outcome");
-    naming_is(lupinenblatt_kind_name, 1, 15, "no kind");
-    naming_is(lupinenblatt_status_name, 0, 8, "no status");
-    naming_is(lupinenblatt_sort_name, 1, 7, "no sort");
-    naming_is(lupinenblatt_purpose_name, 0, 3, "no purpose");
-    naming_is(lupinenblatt_canceller_name, 0, 2, "no canceller");
-    naming_is(lupinenblatt_table_fault_name, 0, 32, "no clause");
-    naming_is(lupinenblatt_books_fault_name, 0, 16, "no clause");
+    naming_is(lupinenblatt_outcome_name, 0, OUTCOMES - 1, "no outcome");
+    naming_is(lupinenblatt_kind_name, 1, KINDS, "no kind");
+    naming_is(lupinenblatt_status_name, 0, STATUSES - 1, "no status");
+    naming_is(lupinenblatt_sort_name, 1, SORTS, "no sort");
+    naming_is(lupinenblatt_purpose_name, 0, PURPOSES - 1, "no purpose");
+    naming_is(lupinenblatt_canceller_name, 0, CANCELLERS - 1, "no canceller");
+    naming_is(lupinenblatt_table_fault_name, 0, TABLE_CLAUSES, "no clause");
+    naming_is(lupinenblatt_books_fault_name, 0, BOOKS_CLAUSES, "no clause");
 }
 
 static void kind_words(void)
@@ -269,9 +269,9 @@ int main(int count, char **arguments)
 {
     (void)arguments;
     if (count > 1) {
-        print_names("outcome", lupinenblatt_outcome_name, 1, 14);
-        print_names("TABLE", lupinenblatt_table_fault_name, 1, 32);
-        print_names("BOOKS", lupinenblatt_books_fault_name, 1, 16);
+        print_names("outcome", lupinenblatt_outcome_name, 1, OUTCOMES - 1);
+        print_names("TABLE", lupinenblatt_table_fault_name, 1, TABLE_CLAUSES);
+        print_names("BOOKS", lupinenblatt_books_fault_name, 1, BOOKS_CLAUSES);
         return 0;
     }
     sizes();

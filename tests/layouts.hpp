@@ -7,13 +7,19 @@
 #include <array>
 
 #include "model.hpp"
+#include "sizes.h"
 
 namespace MODEL {
 
 using Bytes = std::vector<uint8_t>;
 
-constexpr size_t ROW = 80, MESSAGE = 24, RECORD = 24, BOOKS = 8712, PLACES = 64;
-constexpr size_t CODES_AT = 8, FILTERS_AT = 4104, SPLITS_AT = 8200;
+// The model spells its own numbers, and this file has its own layouts; both must be those of sizes.h, which may count more outcomes.
+static_assert(EXHAUSTED < OUTCOMES && PURGE == KINDS && CANCELED + 1 == STATUSES && WINDOW_NOTICE == SORTS, "numbers of the model");
+static_assert(DISCONNECT + 1 == PURPOSES && OLD_SIDE + 1 == CANCELLERS && NO + 1 == MARKS, "numbers of the model");
+static_assert(PROVIDERS == 63 && CODES == 1024 && FILTERS == 1024 && SPLITS == 64 && MOST_ROWS == 4096, "bounds of the model");
+static_assert(PLACES == 64 && MOST_RETRIES == 7 && LAST_VERSION == 65535 && LAST_CAUSE == 99, "bounds of the model");
+static_assert(CODES_AT == 8 && FILTERS_AT == CODES_AT + 4 * CODES && SPLITS_AT == FILTERS_AT + 4 * FILTERS, "places of the books");
+static_assert(BOOKS == SPLITS_AT + 8 * SPLITS, "places of the books");
 
 // Fields of a word of 64 bits, from the highest bit down.
 class WordWriter {
@@ -49,12 +55,14 @@ inline uint64_t wordOf(const Systems &s) {
 
 inline Systems systemsIn(uint64_t word) {
     Systems s;
-    for (Provider p = 0; p <= 63; p++)
+    for (Provider p = 0; p <= PROVIDERS; p++)
         if (word >> p & 1) s.insert(s.end(), p);
     return s;
 }
 
 // ---- Version row ----
+
+static_assert(ROW == 10 * 8 && PROVIDERS == 3 * 21 && STATUS_VALUES == 1 << 4, "ten words, as they are packed here");
 
 // Words 7, 8 and 9: a zero bit, then the retries of 21 systems, the last system highest.
 inline WordWriter retriesOf(const Version &v, Provider first) {
@@ -130,7 +138,7 @@ inline void packTable(const Table &t, Bytes &out) {
 }
 
 inline std::optional<Table> unpackTable(const uint8_t *in, size_t length) {
-    if (length % ROW != 0 || length / ROW > 4096) return std::nullopt;
+    if (length % ROW != 0 || length / ROW > MOST_ROWS) return std::nullopt;
     Table t;
     for (size_t at = 0; at < length; at += ROW) {
         if (allZero(in + at, ROW)) {
@@ -186,8 +194,8 @@ inline std::optional<Books> unpackBooks(const uint8_t *providers, size_t provide
         b.providers.push_back({providers[i] % 2 == 1, providers[i] / 2 == 1});
     }
     if (length != BOOKS || !allZero(in, CODES_AT)) return std::nullopt;
-    std::optional<size_t> codes = usedPlaces(in + CODES_AT, 1024, 4), filters = usedPlaces(in + FILTERS_AT, 1024, 4);
-    std::optional<size_t> splits = usedPlaces(in + SPLITS_AT, 64, 8);
+    std::optional<size_t> codes = usedPlaces(in + CODES_AT, CODES, 4), filters = usedPlaces(in + FILTERS_AT, FILTERS, 4);
+    std::optional<size_t> splits = usedPlaces(in + SPLITS_AT, SPLITS, 8);
     if (!codes || !filters || !splits) return std::nullopt;
     for (size_t i = 0; i < *codes; i++) {
         uint64_t entry = takeFour(in, CODES_AT + 4 * i);
@@ -202,6 +210,8 @@ inline std::optional<Books> unpackBooks(const uint8_t *providers, size_t provide
 }
 
 // ---- Message ----
+
+static_assert(MESSAGE == 3 * 8, "three words, as they are packed here");
 
 inline void packMessage(const Message &m, uint8_t *out) {
     WordWriter().put(m.tn.digits, 34).put(m.number, 16).put(uint64_t(m.status), 4).put(m.provider, 6).put(m.sort, 4).into(out);
@@ -227,8 +237,16 @@ inline void packTray(const Messages &messages, uint8_t *tray) {
 // ---- Event record ----
 
 // [E1] The widths, in order; 14 spare bits end the record. The ten fields as numbers, in this order.
-constexpr std::array<int, 10> WIDTHS = {8, 6, 6, 2, 8, 34, 34, 16, 32, 32};
-using Fields = std::array<uint64_t, 10>;
+constexpr std::array<int, FIELDS> WIDTHS = {8, 6, 6, 2, 8, 34, 34, 16, 32, 32};
+constexpr int SPARE = 14;
+using Fields = std::array<uint64_t, FIELDS>;
+
+constexpr size_t bitsOfRecord() {
+    size_t bits = SPARE;
+    for (size_t i = 0; i < FIELDS; i++) bits += size_t(WIDTHS[i]);
+    return bits;
+}
+static_assert(RECORD * 8 == bitsOfRecord() && WIDTHS[FIELDS - 1] != 0, "a record of these widths");
 
 inline Fields fieldsOf(const Event &e) {
     return {e.kind, e.sender, e.other, e.mark, e.cause, e.tn.digits, e.lrn.digits, e.version, e.time, e.due};
@@ -249,7 +267,7 @@ inline Bytes packFields(const Fields &f, uint64_t spare = 0) {
         for (int i = width - 1; i >= 0; i--, bit++) out[bit / 8] = uint8_t(out[bit / 8] | (value >> i & 1) << (7 - bit % 8));
     };
     for (size_t i = 0; i < f.size(); i++) put(f[i], WIDTHS[i]);
-    put(spare, 14);
+    put(spare, SPARE);
     return out;
 }
 
@@ -266,7 +284,7 @@ inline std::optional<Event> unpackEvent(const uint8_t *in, size_t length) {
     };
     Fields f;
     for (size_t i = 0; i < f.size(); i++) f[i] = take(WIDTHS[i]);
-    if (take(14) != 0) return std::nullopt;
+    if (take(SPARE) != 0) return std::nullopt;
     return eventOf(f);
 }
 

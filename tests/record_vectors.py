@@ -152,7 +152,7 @@ def malformed(kind):
     if kind in (1, 2):
         for value in (1, 63):
             yield dict(base, sender=value, other=value)
-    for value in (0, 16, 255):
+    for value in (0, max(USES) + 1, 255):
         yield dict(base, kind=value)
 
 
@@ -195,7 +195,7 @@ def write(e, length, good, letter="W"):
     put(letter, length, body, (["0"] if good else ["2"]) + ([after] if after else []) + back)
 
 
-for kind in range(1, 16):
+for kind in sorted(USES):
     for e in extremes(kind):
         read(pack(e), True)
         write(e, 24, True)

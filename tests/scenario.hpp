@@ -113,9 +113,10 @@ inline Scenario readScenario(std::istream &in) {
 
 inline std::string textOf(const Message &m) {
     static const char *const sorts[] = {"?", "creation", "status", "attributes", "create", "modify", "delete", "window"};
+    static_assert(std::size(sorts) == SORTS + 1, "a word for each sort");
     std::ostringstream out;
-    out << "msg " << (m.localSms ? 'L' : 'S') << m.provider << ' ' << sorts[m.sort > WINDOW_NOTICE ? 0 : int(m.sort)] << ' ' << m.tn.digits << ' '
-        << m.number << ' ' << int(m.status) << ' ' << textOf(m.failed) << ' ' << m.lrn.digits;
+    out << "msg " << (m.localSms ? 'L' : 'S') << m.provider << ' ' << sorts[m.sort > SORTS ? 0 : size_t(m.sort)] << ' ' << m.tn.digits
+        << ' ' << m.number << ' ' << int(m.status) << ' ' << textOf(m.failed) << ' ' << m.lrn.digits;
     return out.str();
 }
 

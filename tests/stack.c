@@ -6,14 +6,15 @@
 #include <stdio.h>
 #include <string.h>
 
-#include "lupinenblatt.h"
+#include "sizes.h"
 
 #define STACK (1 << 20)
 #define PAINT 0x5a
+#define EVENTS 1024
 
 static uint8_t stack[STACK] __attribute__((aligned(65536)));
-static uint8_t table[LUPINENBLATT_TABLE_ROWS * LUPINENBLATT_ROW_BYTES], books[LUPINENBLATT_BOOKS_BYTES];
-static uint8_t providers[LUPINENBLATT_PROVIDERS_BYTES], tray[1024 * LUPINENBLATT_TRAY_BYTES], events[1024 * 24], outcomes[2048], event[24];
+static uint8_t table[MOST_ROWS * ROW], books[BOOKS], providers[PROVIDERS], tray[EVENTS * PLACES * MESSAGE];
+static uint8_t events[EVENTS * RECORD], outcomes[2 * EVENTS], event[RECORD];
 static uint8_t before[sizeof table];
 static unsigned now = 10, recorded, done;
 static uint64_t ran;
@@ -23,8 +24,8 @@ static void empty(void) {}
 /* One event on a table of 4,096 rows, with every provider and every place of the books used. */
 static void step(void)
 {
-    done += lupinenblatt_step(table, sizeof table, providers, sizeof providers, books, sizeof books, 7, event, sizeof event, tray, sizeof tray)
-                .outcome == LUPINENBLATT_DONE;
+    done += lupinenblatt_step(table, sizeof table, providers, sizeof providers, books, sizeof books, MOST_RETRIES, event, sizeof event,
+                              tray, sizeof tray).outcome == LUPINENBLATT_DONE;
 }
 
 static void step_default(void)
@@ -35,8 +36,8 @@ static void step_default(void)
 /* The same events in one call. */
 static void run(void)
 {
-    ran = lupinenblatt_run(table, sizeof table, providers, sizeof providers, books, sizeof books, 7, events, (size_t)recorded * 24, tray,
-                           sizeof tray, outcomes, sizeof outcomes).events;
+    ran = lupinenblatt_run(table, sizeof table, providers, sizeof providers, books, sizeof books, MOST_RETRIES, events,
+                           (size_t)recorded * RECORD, tray, sizeof tray, outcomes, sizeof outcomes).events;
 }
 
 static void table_check(void) { lupinenblatt_table_check(table, sizeof table); }
@@ -46,8 +47,8 @@ static void books_fault(void) { lupinenblatt_books_fault(providers, sizeof provi
 
 static void record_read(void)
 {
-    static uint64_t fields[LUPINENBLATT_RECORD_FIELDS];
-    lupinenblatt_record_read(event, sizeof event, fields, LUPINENBLATT_RECORD_FIELDS);
+    static uint64_t fields[FIELDS];
+    lupinenblatt_record_read(event, sizeof event, fields, FIELDS);
 }
 
 static void record_write(void) { lupinenblatt_record_write(1, 2, 1, 0, 0, 3035550100u, 3035550000u, 0, 10, 100, event, sizeof event); }
@@ -89,7 +90,8 @@ static void put_event(uint64_t kind, uint64_t sender, uint64_t other, uint64_t m
 {
     lupinenblatt_event e = {kind, sender, other, mark, 0, 3035550100u, lrn, version, now++, due};
     lupinenblatt_event_write(e, event, sizeof event);
-    memcpy(events + 24 * (size_t)recorded++, event, sizeof event);
+    if (recorded < EVENTS)
+        memcpy(events + RECORD * (size_t)recorded++, event, sizeof event);
 }
 
 /* Kinds that write are accepted, the last three refused. */
@@ -101,8 +103,8 @@ static void each_kind(void)
     put_event(4, 1, 0, 1, 0, 1, 5), tell("step, kind 4", step);
     put_event(5, 2, 0, 0, 0, 1, 0), tell("step, kind 5", step);
     put_event(12, 0, 1, 0, 0, 1, 0), tell("step, kind 12", step);
-    for (unsigned p = 1; p <= 63; p++)
-        put_event(11, p, 0, 1, 0, 1, 0), tell(p == 63 ? "step, kind 11, last" : "step, kind 11", step);
+    for (unsigned p = 1; p <= PROVIDERS; p++)
+        put_event(11, p, 0, 1, 0, 1, 0), tell(p == PROVIDERS ? "step, kind 11, last" : "step, kind 11", step);
     put_event(9, 2, 0, 0, 3035550001u, 1, 0), tell("step, kind 9", step);
     put_event(13, 0, 0, 0, 0, 1, 0), tell("step, kind 13", step);
     put_event(14, 0, 0, 0, 0, 1, 0), tell("step, kind 14", step);
@@ -114,8 +116,8 @@ static void fill_table(void)
 {
     static const uint8_t row[] = {0x2d, 0x3b, 0xb4, 0x65, 0x00, 0x00, 0x5d, 0x80, 0x2d, 0x3b, 0xb4, 0x4c, 0x02, 0x05, 0x00, 0x00,
                                   0x00, 0x00, 0x00, 0x64, 0x00, 0x00, 0x00, 0x64, 0x00, 0x00, 0x00, 0x01};
-    for (unsigned i = 0; i < LUPINENBLATT_TABLE_ROWS - 1; i++) {
-        uint8_t *place = table + (size_t)i * LUPINENBLATT_ROW_BYTES;
+    for (unsigned i = 0; i < MOST_ROWS - 1; i++) {
+        uint8_t *place = table + (size_t)i * ROW;
         uint64_t first = (uint64_t)(3035560000u + i) << 30 | (uint64_t)1 << 14 | 7 << 10 | 1 << 8 | 1 << 7;
         memcpy(place, row, sizeof row);
         for (unsigned b = 0; b < 8; b++)
@@ -125,13 +127,13 @@ static void fill_table(void)
 
 int main(void)
 {
-    for (unsigned p = 1; p <= 63; p++)
+    for (unsigned p = 1; p <= PROVIDERS; p++)
         lupinenblatt_providers_put(providers, sizeof providers, p, LUPINENBLATT_PROVIDER_LOCAL);
-    for (unsigned i = 0; i < 1024; i++)
+    for (unsigned i = 0; i < CODES; i++)
         lupinenblatt_books_put_code(books, i, 303200 + i / 100 * 1000 + i % 100 + 355, 1);
-    for (unsigned i = 0; i < 1024; i++)
+    for (unsigned i = 0; i < FILTERS; i++)
         lupinenblatt_books_put_filter(books, i, 1 + i / 100, 404200 + i % 100);
-    for (unsigned i = 0; i < 64; i++)
+    for (unsigned i = 0; i < SPLITS; i++)
         lupinenblatt_books_put_pair(books, i, 505200 + i, 606200 + i);
     fill_table();
     if (lupinenblatt_table_fault(table, sizeof table, providers, sizeof providers, books, sizeof books).clause != 0) {
@@ -143,7 +145,7 @@ int main(void)
     memcpy(table, before, sizeof table);
     tell("run", run), tell("table_check", table_check), tell("books_check", books_check);
     tell("record_read", record_read), tell("record_write", record_write), tell("table_fault", table_fault), tell("books_fault", books_fault);
-    table[sizeof table - 1] = 1, books[8710] = 1;
+    table[sizeof table - 1] = 1, books[sizeof books - 2] = 1;
     tell("table_fault, unsound", table_fault), tell("books_fault, unsound", books_fault);
     if (done != 70 || ran != recorded) {
         printf("%u events accepted instead of 70, %u of %u run\n", done, (unsigned)ran, recorded);

@@ -12,10 +12,10 @@ static Bytes eventsOf(Dice &d, const Situation &s, bool damaged) {
     for (uint64_t n = d.below(30); n > 0; n--) {
         Event e = nextEvent(d, s, 75);
         Bytes record = damaged && d.chance(20) ? damagedRecord(d, e) : packEvent(e);
-        record.resize(24);
+        record.resize(RECORD);
         out.insert(out.end(), record.begin(), record.end());
     }
-    if (damaged && d.chance(50)) out.resize(out.size() + d.between(1, 23), 0x17);
+    if (damaged && d.chance(50)) out.resize(out.size() + d.between(1, RECORD - 1), 0x17);
     return out;
 }
 
