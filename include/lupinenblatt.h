@@ -27,9 +27,10 @@ extern "C" {
 
 /* The version of header and library; docs/LAYOUTS.md says what each part counts. */
 #define LUPINENBLATT_VERSION_MAJOR 0
-#define LUPINENBLATT_VERSION_MINOR 1
+#define LUPINENBLATT_VERSION_MINOR 2
 #define LUPINENBLATT_VERSION_PATCH 0
-#define LUPINENBLATT_VERSION "0.1.0"
+#define LUPINENBLATT_VERSION "0.2.0"
+#define LUPINENBLATT_VERSION_NUMBER (1000000 * LUPINENBLATT_VERSION_MAJOR + 1000 * LUPINENBLATT_VERSION_MINOR + LUPINENBLATT_VERSION_PATCH)
 
 /* Outcome numbers. */
 #define LUPINENBLATT_DONE 0
@@ -221,6 +222,9 @@ uint8_t lupinenblatt_record_read(const uint8_t *bytes, size_t bytes_length, uint
  */
 uint8_t lupinenblatt_record_write(uint64_t kind, uint64_t sender, uint64_t other, uint64_t mark, uint64_t cause, uint64_t tn, uint64_t lrn,
                                   uint64_t version, uint64_t time, uint64_t due, uint8_t *out, size_t out_length);
+
+/* The library's version: LUPINENBLATT_VERSION_NUMBER of the header that it was made with. */
+uint64_t lupinenblatt_version(void);
 
 /* What a step says: the outcome's number, and how many messages stand in the tray from its first place on. */
 typedef struct {

@@ -52,6 +52,7 @@ static void sizes(void)
     char version[32];
     sprintf(version, "%d.%d.%d", LUPINENBLATT_VERSION_MAJOR, LUPINENBLATT_VERSION_MINOR, LUPINENBLATT_VERSION_PATCH);
     SAME(version, LUPINENBLATT_VERSION);
+    CHECK(lupinenblatt_version() == LUPINENBLATT_VERSION_NUMBER);
 }
 
 static void events(void)

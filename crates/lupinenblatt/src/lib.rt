@@ -5,6 +5,7 @@ ghost use Rattle.fields.specs.Calls.{event, Handed};
 pub mod fault;
 pub mod run;
 pub mod step;
+pub mod version;
 
 // Reads a record: its ten fields to exactly ten places, and 0; 2 where it is malformed or the places are not ten, and nothing is written.
 #[no_mangle]

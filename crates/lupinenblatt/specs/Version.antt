@@ -1,0 +1,7 @@
+-- The library's version, which a caller holds against its header's.
+-- Assumes nothing.
+use Prim.Native.Nat.{ℕ, _+_, _*_}
+
+-- 0.2.0: major, minor, patch
+abbrev pub version : ℕ
+version = 1000000 * 0 + 1000 * 2 + 0
