@@ -121,7 +121,7 @@ module _ (m : Marks) (b : List ℕ) (most : ℕ) (t : List ℕ) (n : ℕ) (e : E
     owner = kn .owner;
     selected = kn .selected;
     survey = sv;
-    lives = record { only = others-live (rowsIn t) (decode t) (st .sound) (nameIn e) ∙ ap listOf (sym (sv .rest .live .is)); stands = sv .rest .live .stands };
+    lives = record { only = others-live (rowsIn t) (decode t) (st .sound) (nameIn e) ∙ ap listOf (sym (sv .former .is)); stands = sv .former .stands };
     fresh = λ j l. fresh-absent (record { tn = e .tn; number = j }) (decode t) l;
   }
 

@@ -48,7 +48,7 @@ module _ (t : List Version) (g : Given) (f : Facts) (s : Surveyed t (g .rows) (n
   unfolding createFor early busy notCurrent unfit exhausted full currentFor
   create-judged k =
       let c = create-answer (g .event .kind) k in
-      rw (k, k, c .0, no-due (g .event) (found g) (c .1), or-false (ltb (g .event .time) (lastStamp (g .rows))), s .all .newest, s .all .stamp, s .all .sending, s .all .live .is, s .worked .is)
+      rw (k, k, c .0, no-due (g .event) (found g) (c .1), or-false (ltb (g .event .time) (lastStamp (g .rows))), s .newest, s .stamp, s .sending, s .live .is, s .worked .is)
 
   pub unknown-judged : isCreate (g .event .kind) ≡ false → found g ≡ none → unknownBy (absent (g .books) (g .event)) ≡ judge (refuses g) (orderOf (g .event .kind))
   unknown-judged c q = go (isAnswer (g .event .kind)) refl
@@ -65,4 +65,4 @@ module _ (t : List Version) (g : Given) (f : Facts) (s : Surveyed t (g .rows) (n
   pub other-judged : (v : Version) → isCreate (g .event .kind) ≡ false → isAnswer (g .event .kind) ≡ false → found g ≡ some v
       → otherFor (g .event) (absent (g .books) (g .event)) f v ≡ judge (refuses g) (orderOf (g .event .kind))
   unfolding otherFor early busy busyWith unawaited
-  other-judged v c a q = rw (c, a, q, c, a, s .all .newest, s .all .stamp, s .rest .sending)
+  other-judged v c a q = rw (c, a, q, c, a, s .newest, s .stamp, s .blocked)

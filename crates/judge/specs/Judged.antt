@@ -43,11 +43,11 @@ abbrev pub createTests : Event → Bool → ℕ → Facts → Bool → List Bool
 createTests e absent owner f free =
     absent
     ∷ eqb owner 0
-    ∷ f .all .sends
-    ∷ ltb (e .time) (f .all .stamp)
-    ∷ not (eqb (oldIn e) (currentOr owner (theOne (f .all .live))))
+    ∷ f .sends
+    ∷ ltb (e .time) (f .stamp)
+    ∷ not (eqb (oldIn e) (currentOr owner (theOne (f .live))))
     ∷ holds (theOne (f .worked)) (λ (v : Version). not (fits e v))
-    ∷ (isNone (theOne (f .worked)) && leb 65535 (f .all .newest))
+    ∷ (isNone (theOne (f .worked)) && leb 65535 (f .newest))
     ∷ (isNone (theOne (f .worked)) && not free)
     ∷ []
 
@@ -65,8 +65,8 @@ answerFor e absent v = firstOf answerOrder (absent ∷ false ∷ not (awaited e 
 -- all others [O8]
 abbrev pub busyFor : Event → Facts → Version → Bool
 busyFor e f v =
-    cond (isBroadcast (e .kind)) (f .rest .sends || (eqb (e .kind) 14 && eqb (v .status) failure && ltb (v .id .number) (f .all .newest)))
-    (eqb (e .kind) 15 && leb (f .all .newest) (v .id .number))
+    cond (isBroadcast (e .kind)) (f .blocked || (eqb (e .kind) 14 && eqb (v .status) failure && ltb (v .id .number) (f .newest)))
+    (eqb (e .kind) 15 && leb (f .newest) (v .id .number))
 
 unfoldable pub otherFor : Event → Bool → Facts → Version → Outcome
 otherFor e absent f v =
@@ -76,6 +76,6 @@ otherFor e absent f v =
     ∷ lacksStanding e v
     ∷ wrongStatus e v
     ∷ busyFor e f v
-    ∷ (ltb (e .time) (f .all .stamp) || beforeDue e v)
+    ∷ (ltb (e .time) (f .stamp) || beforeDue e v)
     ∷ idle e v
     ∷ [])

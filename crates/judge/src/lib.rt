@@ -74,22 +74,21 @@ fn nobody(s: Seen) -> bool
 pub fn create(e: Event, absent: bool, owner: u8, f: Facts, free: bool) -> Outcome
     ensures { λ r. ⌜ r ≡ createFor e absent owner f free ⌝ }
 {
-    let all = f.all;
-    let live = all.live;
+    let live = f.live;
     let worked = f.worked;
     let holder = current(owner, live);
     let old = sides::old_in(e);
     let misfit = unfit(e, worked);
     let fresh = nobody(worked);
-    let early = e.time < all.stamp;
-    let exhausted = fresh & (65535 <= all.newest);
+    let early = e.time < f.stamp;
+    let exhausted = fresh & (65535 <= f.newest);
     let full = fresh & !free;
     let o = first(full, Outcome::Full, Outcome::Done);
     let o = first(exhausted, Outcome::Exhausted, o);
     let o = first(misfit, Outcome::Unfit, o);
     let o = first(old != holder, Outcome::NotCurrent, o);
     let o = first(early, Outcome::Early, o);
-    let o = first(all.sends, Outcome::Busy, o);
+    let o = first(f.sends, Outcome::Busy, o);
     let o = first(owner == 0, Outcome::Unlisted, o);
     first(absent, Outcome::Absent, o)
 }
@@ -130,12 +129,10 @@ fn unready(e: Event, v: Version) -> bool
 fn busy(e: Event, f: Facts, v: Version) -> bool
     ensures { λ r. ⌜ r ≡ busyFor e f v ⌝ }
 {
-    let all = f.all;
-    let rest = f.rest;
     if opening::is_broadcast(e.kind) {
-        return rest.sends | ((e.kind == 14) & (v.status == 4) & (v.id.number < all.newest));
+        return f.blocked | ((e.kind == 14) & (v.status == 4) & (v.id.number < f.newest));
     }
-    (e.kind == 15) & (all.newest <= v.id.number)
+    (e.kind == 15) & (f.newest <= v.id.number)
 }
 
 fn idle(e: Event, v: Version) -> bool
@@ -152,13 +149,12 @@ pub fn other(e: Event, absent: bool, f: Facts, v: Version) -> Outcome
     requires { ⌜ (v .status < 9) × (isGridKind (e .kind) ≡ true) ⌝ }
     ensures { λ r. ⌜ r ≡ otherFor e absent f v ⌝ }
 {
-    let all = f.all;
     let standing = sides::standing_of(e, v);
     let entry = grid::grid(v.status, e.kind, standing);
     let finer = unready(e, v);
     let taken = busy(e, f, v);
     let spent = idle(e, v);
-    let early = (e.time < all.stamp) | ((e.kind == 5) & (e.time < v.new.due));
+    let early = (e.time < f.stamp) | ((e.kind == 5) & (e.time < v.new.due));
     let o = first(spent, Outcome::Unawaited, Outcome::Done);
     let o = first(early, Outcome::Early, o);
     let o = first(taken, Outcome::Busy, o);

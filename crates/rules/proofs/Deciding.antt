@@ -73,20 +73,20 @@ module _ (e : Event) (k : Known) (f : Facts) (o : Outcome) (c : isCreate (e .kin
   create-judges bk r t fc = q ∙ rw (fc .absent, fc .owner c) (create-judged t (givenBy bk k e r) f (fc .survey) c)
 
   module _ (d : isDone o ≡ true) where
-    pub create-room : theOne (f .worked) ≡ none → f .all .newest < 65535
+    pub create-room : theOne (f .worked) ≡ none → f .newest < 65535
     unfolding createFor
     create-room w =
-        leb-false 65535 (f .all .newest) (rw w at (refusal-passed (testOf createOrder (createTests e (k .absent) (k .owner) f (k .free))) createOrder Exhausted refl refl (ap isDone (sym q) ∙ d)))
+        leb-false 65535 (f .newest) (rw w at (refusal-passed (testOf createOrder (createTests e (k .absent) (k .owner) f (k .free))) createOrder Exhausted refl refl (ap isDone (sym q) ∙ d)))
 
     create-free : theOne (f .worked) ≡ none → k .free ≡ true
     unfolding createFor
     create-free w = not-false (k .free) (rw w at (refusal-passed (testOf createOrder (createTests e (k .absent) (k .owner) f (k .free))) createOrder Full refl refl (ap isDone (sym q) ∙ d)))
 
-    pub create-says : (v : Verdict) → Creates e (f .all .newest) (f .worked) v → Decides e k f v
+    pub create-says : (v : Verdict) → Creates e (f .newest) (f .worked) v → Decides e k f v
     unfolding accepted
     create-says v s =
-        accepted-says e k f o v create-judges d (λ bk r t fc. rw c (s t r (k .free) (fc .survey .all .newest) (fc .survey .worked .is) (fc .survey .worked .stands) (λ w.
-        (create-free w, fc .fresh (f .all .newest + 1) (let h = fc .survey .all .newest in omega arith)))))
+        accepted-says e k f o v create-judges d (λ bk r t fc. rw c (s t r (k .free) (fc .survey .newest) (fc .survey .worked .is) (fc .survey .worked .stands) (λ w.
+        (create-free w, fc .fresh (f .newest + 1) (let h = fc .survey .newest in omega arith)))))
 
 -- ---- a version that is named
 module _ (e : Event) (k : Known) (f : Facts) (bk : Books) (r t : List Version) (fc : Facing bk r t e k f) where
@@ -129,7 +129,7 @@ module _ (e : Event) (k : Known) (f : Facts) (i : ℕ) (v : Version) (q : f .ask
     answer-judges bk r t fc =
         p ∙ rw (fc .absent) (answer-judged t (givenBy bk k e r) f (fc .survey) v (answer-create (e .kind) a) a (is-found e k f bk r t fc (One i v) q))
 
-    pub answer-says : isDone o ≡ true → (w : Verdict) → Settles (answers (k .most) e v) i (v .id) (f .rest .live) w → Decides e k f w
+    pub answer-says : isDone o ≡ true → (w : Verdict) → Settles (answers (k .most) e v) i (v .id) (f .former) w → Decides e k f w
     unfolding accepted
     answer-says d w s =
         accepted-says e k f o w answer-judges d (λ bk r t fc.
@@ -141,7 +141,7 @@ module _ (e : Event) (k : Known) (f : Facts) (i : ℕ) (v : Version) (q : f .ask
     other-judges bk r t fc =
         p ∙ rw (fc .absent) (other-judged t (givenBy bk k e r) f (fc .survey) v c a (is-found e k f bk r t fc (One i v) q))
 
-    pub other-says : isDone o ≡ true → (w : Verdict) → Manages (k .selected) i e v (f .rest .live) w → Decides e k f w
+    pub other-says : isDone o ≡ true → (w : Verdict) → Manages (k .selected) i e v (f .former) w → Decides e k f w
     unfolding accepted
     other-says d w s =
         accepted-says e k f o w other-judges d (λ bk r t fc.

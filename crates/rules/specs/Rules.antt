@@ -109,7 +109,7 @@ pub record Facing (bk : Books) (r t : List Version) (e : Event) (k : Known) (f :
   pub owner : isCreate (e .kind) ≡ true → k .owner ≡ ownerOf bk (codeOf (e .tn))
   pub selected : isBroadcast (e .kind) ≡ true → k .selected ≡ selectedFor bk (e .tn)
   pub survey : Surveyed t r (nameIn e) f
-  pub lives : Lives t (f .rest .live) (others (nameIn e) r)
+  pub lives : Lives t (f .former) (others (nameIn e) r)
   pub fresh : (n : ℕ) → newest r < n → find (record { tn = e .tn; number = n }) t ≡ none
 
 -- the verdict says the model's rule, whatever books and rows the values are of

@@ -47,9 +47,8 @@ fn on_create(e: Event, k: Known, f: Facts) -> Verdict
     if outcomes::number(o) != 0 {
         return refused(o);
     }
-    let all = f.all;
     let worked = f.worked;
-    accepted::created(e, all.newest, worked)
+    accepted::created(e, f.newest, worked)
 }
 
 // Kinds 11 and 12.
@@ -62,8 +61,7 @@ fn on_answer(e: Event, k: Known, f: Facts, i: usize, v: Version) -> Verdict
     if outcomes::number(o) != 0 {
         return refused(o);
     }
-    let rest = f.rest;
-    let lives = rest.live;
+    let lives = f.former;
     accepted::answered(k.most, i, e, v, lives)
 }
 
@@ -77,8 +75,7 @@ fn on_other(e: Event, k: Known, f: Facts, i: usize, v: Version) -> Verdict
     if outcomes::number(o) != 0 {
         return refused(o);
     }
-    let rest = f.rest;
-    let lives = rest.live;
+    let lives = f.former;
     accepted::managed(k.selected, i, e, v, lives)
 }
 

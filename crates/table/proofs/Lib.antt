@@ -3,7 +3,6 @@ pub mod Surveys
 pub mod Changed
 pub mod Numbered
 pub mod Sought
-pub mod Told
 pub mod Steps
 pub mod Asked
 pub mod Using

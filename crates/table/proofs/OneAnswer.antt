@@ -15,11 +15,10 @@ use Rattle.model.specs.Sound.{soundTable}
 use Rattle.model.proofs.Lists.{nothing-some}
 use Rattle.table.specs.declared.survey.Seen.{Seen}
 use Rattle.table.specs.declared.survey.Seen.the-variants.{Nobody, One}
-use Rattle.table.specs.declared.survey.Summary.{Summary}
 use Rattle.table.specs.declared.survey.Facts.{Facts}
 use Rattle.table.specs.Find.{keyFor}
 use Rattle.scan.specs.Sound.{itself}
-use Rattle.table.specs.Survey.{versionAt, Found, Summed, Surveyed}
+use Rattle.table.specs.Survey.{versionAt, Found, Surveyed}
 use Rattle.rows.proofs.Sounds.{RisingFrom}
 use Rattle.table.proofs.Changed.{rises-at}
 use Rattle.scan.proofs.Meant.{table-good}
@@ -48,21 +47,17 @@ found-one t r (One i v) (One j w) o f g =
     let p : i ≡ j = one-place t r i j (f .stands .0) (g .stands .0) (f .stands .1 ∙ e ∙ sym (g .stands .1)) in
     λ x. One (p x) (e x)
 
-summed-one : (t : List Version) → RisingFrom 0 t → (s u : Summary) (l : List Version) → Summed t s l → Summed t u l → s ≡ u
-summed-one t r s u l f g = λ x. record {
-  newest = (f .newest ∙ sym (g .newest)) x;
-  stamp = (f .stamp ∙ sym (g .stamp)) x;
-  sends = (f .sending ∙ sym (g .sending)) x;
-  live = found-one t r (s .live) (u .live) _ (f .live) (g .live) x;
-}
-
 pub surveyed-one : (rows : ℕ) (t : List Version) → soundTable itself rows t ≡ true → (r : List Version) (k : Id) (f g : Facts)
     → Surveyed t r k f → Surveyed t r k g → f ≡ g
 surveyed-one rows t s r k f g a b =
     let up : RisingFrom 0 t = table-good rows t s .rises in
     λ x. record {
-      all = summed-one t up (f .all) (g .all) _ (a .all) (b .all) x;
-      rest = summed-one t up (f .rest) (g .rest) _ (a .rest) (b .rest) x;
+      newest = (a .newest ∙ sym (b .newest)) x;
+      stamp = (a .stamp ∙ sym (b .stamp)) x;
+      sends = (a .sending ∙ sym (b .sending)) x;
+      live = found-one t up (f .live) (g .live) _ (a .live) (b .live) x;
       worked = found-one t up (f .worked) (g .worked) _ (a .worked) (b .worked) x;
       asked = found-one t up (f .asked) (g .asked) _ (a .asked) (b .asked) x;
+      blocked = (a .blocked ∙ sym (b .blocked)) x;
+      former = found-one t up (f .former) (g .former) _ (a .former) (b .former) x;
     }

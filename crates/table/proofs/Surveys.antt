@@ -1,157 +1,149 @@
--- The laws of `specs/Survey.antt`: one version more, a turn of the loop, and the sum of a list by the model's definitions. Assumes nothing.
-use mathlib.Core.Path.{_≡_, refl, sym, ap, _∙_}
-use mathlib.Core.Bool.{Bool, true, false, cond, not, _&&_, _||_, or-assoc, or-false}
+-- The laws of `specs/Survey.antt`: no version, one version more before the others, and the places of a number. Assumes nothing.
+use mathlib.Core.Path.{_≡_, refl, sym, ap, _∙_, subst}
+use mathlib.Core.Bool.{Bool, true, false, cond, not, _&&_, _||_}
 use mathlib.Core.Option.{Option, some}
 use mathlib.Core.List.{List, [], _∷_}
-use Prim.Native.Nat.{ℕ, suc, _+_, _≤_, _<_, max}
+use Prim.Native.Nat.{ℕ, zero, suc, _+_, _-_, _*_, _≤_, _<_, max}
 use native.Mathlib.Omega.{arith}
-use native.Mathlib.Numerals.{add-one}
-use lib.ListN.{length}
+use lib.ListN.{length, take, drop}
 use lib.Seq.{slice, slice-cons, slice-empty}
 use Rattle.model.specs.declared.Id.{Id}
 use Rattle.model.specs.declared.Version.{Version}
-use Rattle.model.specs.Basics.{any, keep, first, largest}
+use Rattle.model.specs.Basics.{any, keep, first}
+use Rattle.model.specs.Table.{find, others}
 use Rattle.model.specs.Sound.{live, sends, worked}
-use Rattle.table.specs.declared.survey.Spot.{Spot}
-use Rattle.table.specs.declared.survey.Spot.the-variants.{Nowhere, At}
-use Rattle.table.specs.declared.survey.Part.{Part}
-use Rattle.table.specs.declared.survey.Sum.{Sum}
-use Rattle.table.specs.Survey.{named, firstBy, partWith, sumWith, sumOver, Within, versionAt, seenAt, Found}
+use Rattle.model.proofs.TableLaws.{Under, Rising}
+use Rattle.table.specs.declared.survey.Seen.{Seen}
+use Rattle.table.specs.declared.survey.Seen.the-variants.{Nobody, One}
+use Rattle.table.specs.declared.survey.Facts.{Facts}
+use Rattle.table.specs.Find.{placeIn}
+use Rattle.table.specs.Survey.{named, versionAt, Found, Surveyed}
+use Rattle.table.proofs.Sought.{place-le}
+use Rattle.table.proofs.Numbered.{place-up, not-named, find-first}
 
--- ---- one version more
+-- ---- no version
 
-pub part-counted : (b : Bool) → b ≡ true → (p : Part) (i : ℕ) (v : Version) (n s : ℕ) (l : Spot) → n ≡ max (p .newest) (v .id .number) → s ≡ max (p .stamp) (v .stamp)
-    → l ≡ firstBy (p .live) (live v) i → record { newest = n; stamp = s; sends = p .sends || sends v; live = l } ≡ partWith b p i v
-part-counted true e p i v n s l x y z = λ j. record { newest = x j; stamp = y j; sends = p .sends || sends v; live = z j }
-part-counted false e p i v n s l x y z = let z : _≡_ {A = ℕ} 0 1 = cc in absurd (omega arith)
+abbrev pub noFacts : Facts
+noFacts = record {
+  newest = 0;
+  stamp = 0;
+  sends = false;
+  live = Nobody;
+  worked = Nobody;
+  asked = Nobody;
+  blocked = false;
+  former = Nobody;
+}
 
-pub part-passed : (b : Bool) → b ≡ false → (p : Part) (i : ℕ) (v : Version) → p ≡ partWith b p i v
-part-passed b e p i v = rw e
+pub none-surveyed : (t : List Version) (k : Id) → Surveyed t [] k noFacts
+none-surveyed t k = record {
+  newest = refl;
+  stamp = refl;
+  sending = refl;
+  live = record { is = refl; stands = tt };
+  worked = record { is = refl; stands = tt };
+  asked = record { is = refl; stands = tt };
+  blocked = refl;
+  former = record { is = refl; stands = tt };
+}
+
+-- ---- one version more, at place i before the others
+
+abbrev pub factsWith : Id → ℕ → Version → Facts → Facts
+factsWith k i v f = record {
+  newest = max (v .id .number) (f .newest);
+  stamp = max (v .stamp) (f .stamp);
+  sends = sends v || f .sends;
+  live = cond (live v) (One i v) (f .live);
+  worked = cond (worked v) (One i v) (f .worked);
+  asked = cond (named k v) (One i v) (f .asked);
+  blocked = (not (named k v) && sends v) || f .blocked;
+  former = cond (not (named k v) && live v) (One i v) (f .former);
+}
+
+module _ (t : List Version) (i : ℕ) (h : i < length t) where
+  found-more : (b : Bool) (s : Seen) (o : Option Version) → Found t s o
+      → Found t (cond b (One i (versionAt t i)) s) (cond b (some (versionAt t i)) o)
+  found-more true s o f = record { is = refl; stands = (h, refl) }
+  found-more false s o f = f
+
+  -- the same where only those are looked at that pass a test, c of this one
+  kept-more : (p : Version → Bool) (c : Bool) (s : Seen) (r : List Version) → Found t s (first p r)
+      → Found t (cond (c && p (versionAt t i)) (One i (versionAt t i)) s) (first p (cond c (versionAt t i ∷ r) r))
+  kept-more p true s r f = found-more (p (versionAt t i)) s (first p r) f
+  kept-more p false s r f = f
+
+any-more : (p : Version → Bool) (c : Bool) (v : Version) (r : List Version) → (c && p v) || any p r ≡ any p (cond c (v ∷ r) r)
+any-more p true v r = refl
+any-more p false v r = refl
+
+others-more : (k : Id) (v : Version) (r : List Version) → cond (not (named k v)) (v ∷ others k r) (others k r) ≡ others k (v ∷ r)
+others-more k v r = ap (λ (b : Bool). cond b (v ∷ others k r) (others k r)) (sym (not-named k v))
+
+find-more : (k : Id) (v : Version) (r : List Version) → Rising (v ∷ r) → cond (named k v) (some v) (find k r) ≡ find k (v ∷ r)
+find-more k v r s = ap (λ (o : Option Version). cond (named k v) (some v) o) (find-first k r (s .1)) ∙ sym (find-first k (v ∷ r) s)
+
+one-more : (t r : List Version) (k : Id) (f : Facts) (i : ℕ) → i < length t → Rising (versionAt t i ∷ r)
+    → Surveyed t r k f → Surveyed t (versionAt t i ∷ r) k (factsWith k i (versionAt t i) f)
+one-more t r k f i h s g =
+    let v : Version = versionAt t i in
+    let o : List Version = others k r in
+    let w : Facts = factsWith k i v f in
+    record {
+      newest = ap (max (v .id .number)) (g .newest);
+      stamp = ap (max (v .stamp)) (g .stamp);
+      sending = ap (λ (b : Bool). sends v || b) (g .sending);
+      live = found-more t i h (live v) (f .live) (first live r) (g .live);
+      worked = found-more t i h (worked v) (f .worked) (first worked r) (g .worked);
+      asked = subst (Found t (w .asked)) (find-more k v r s) (found-more t i h (named k v) (f .asked) (find k r) (g .asked));
+      blocked =
+          ap (λ (b : Bool). (not (named k v) && sends v) || b) (g .blocked) ∙ any-more sends (not (named k v)) v o
+          ∙ ap (any sends) (others-more k v r);
+      former =
+          subst (λ (l : List Version). Found t (w .former) (first live l)) (others-more k v r)
+          (kept-more t i h live (not (named k v)) (f .former) o (g .former));
+    }
 
 -- ---- a turn of the loop
 
-pub sum-step : (k : Id) (vs : List Version) (i to : ℕ) (s : Sum) → i < to → to ≤ length vs
-    → sumOver k s i (slice i to vs) ≡ sumOver k (sumWith k s i (versionAt vs i)) (i + 1) (slice (i + 1) to vs)
-sum-step k vs i to s h l =
-    ap (sumOver k s i) (slice-cons i to vs _ h l) ∙ ap (λ (j : ℕ). sumOver k (sumWith k s i (versionAt vs i)) (i + 1) (slice j to vs)) (sym (add-one i))
+under-take : (k : Id) (n : ℕ) (l : List Version) → Under k l → Under k (take n l)
+under-take k zero l u = tt
+under-take k (suc n) [] u = tt
+under-take k (suc n) (x ∷ xs) u = u
 
-pub sum-done : (k : Id) (vs : List Version) (i to : ℕ) (s : Sum) → i ≡ to → sumOver k s i (slice i to vs) ≡ s
-sum-done k vs i to s e = ap (λ (j : ℕ). sumOver k s i (slice j to vs)) e ∙ ap (sumOver k s i) (slice-empty to vs)
+rising-take : (n : ℕ) (l : List Version) → Rising l → Rising (take n l)
+rising-take zero l r = tt
+rising-take (suc n) [] r = tt
+rising-take (suc n) (x ∷ xs) r = (under-take (x .id) n xs (r .0), rising-take n xs (r .1))
 
--- ---- the parts of a sum are sums of their own
+rising-drop : (n : ℕ) (l : List Version) → Rising l → Rising (drop n l)
+rising-drop zero l r = r
+rising-drop (suc n) [] r = tt
+rising-drop (suc n) (x ∷ xs) r = rising-drop n xs (r .1)
 
--- the versions that pass q
-abbrev pub partOver : (Version → Bool) → Part → ℕ → List Version → Part
-partOver q p i [] = p
-partOver q p i (v ∷ vs) = partOver q (partWith (q v) p i v) (i + 1) vs
+module _ (t : List Version) (k : Id) (to : ℕ) where
+  pub survey-starts : Surveyed t (slice to to t) k noFacts
+  survey-starts = subst (λ (r : List Version). Surveyed t r k noFacts) (sym (slice-empty to t)) (none-surveyed t k)
 
--- the place of the first that passes
-abbrev pub spotOf : (Version → Bool) → ℕ → List Version → Spot
-spotOf p i [] = Nowhere
-spotOf p i (v ∷ vs) = cond (p v) (At i) (spotOf p (i + 1) vs)
+  turn : (i : ℕ) (f : Facts) → i < to → to ≤ length t → Rising t → Surveyed t (slice (suc i) to t) k f
+      → Surveyed t (slice i to t) k (factsWith k i (versionAt t i) f)
+  turn i f h l s g =
+      let c : slice i to t ≡ versionAt t i ∷ slice (suc i) to t = slice-cons i to t _ h l in
+      subst (λ (r : List Version). Surveyed t r k (factsWith k i (versionAt t i) f)) (sym c)
+      (one-more t (slice (suc i) to t) k f i (omega arith) (subst Rising c (rising-drop i (take to t) (rising-take to t s))) g)
 
-abbrev orElse : Spot → Spot → Spot
-orElse (At j) s = At j
-orElse Nowhere s = s
+  -- the version v at place i was read, and f became g
+  pub survey-turns : (i j : ℕ) (v : Version) (f g : Facts) → j ≡ suc i → i < to → to ≤ length t → Rising t → v ≡ versionAt t i
+      → g ≡ factsWith k i v f → Surveyed t (slice j to t) k f → Surveyed t (slice i to t) k g
+  survey-turns i j v f g b h l s e w q =
+      subst (Surveyed t (slice i to t) k) (sym (w ∙ ap (λ (x : Version). factsWith k i x f) e))
+      (turn i f h l s (subst (λ (n : ℕ). Surveyed t (slice n to t) k f) b q))
 
-first-else : (s : Spot) (h : Bool) (i : ℕ) (r : Spot) → orElse (firstBy s h i) r ≡ orElse s (cond h (At i) r)
-first-else (At j) h i r = refl
-first-else Nowhere true i r = refl
-first-else Nowhere false i r = refl
+  pub survey-ends : (i from : ℕ) (f : Facts) → i ≡ from → Surveyed t (slice i to t) k f → Surveyed t (slice from to t) k f
+  survey-ends i from f e g = subst (λ (j : ℕ). Surveyed t (slice j to t) k f) e g
 
-else-none : (s : Spot) → orElse s Nowhere ≡ s
-else-none (At j) = refl
-else-none Nowhere = refl
+-- ---- the two places of a number
 
-module _ (k : Id) where
-  pub sum-all : (s : Sum) (i : ℕ) (l : List Version) → sumOver k s i l .all ≡ partOver (λ v. true) (s .all) i l
-  sum-all s i [] = refl
-  sum-all s i (v ∷ vs) = sum-all (sumWith k s i v) (i + 1) vs
-
-  pub sum-rest : (s : Sum) (i : ℕ) (l : List Version) → sumOver k s i l .rest ≡ partOver (λ v. not (named k v)) (s .rest) i l
-  sum-rest s i [] = refl
-  sum-rest s i (v ∷ vs) = sum-rest (sumWith k s i v) (i + 1) vs
-
-  pub sum-worked : (s : Sum) (i : ℕ) (l : List Version) → sumOver k s i l .worked ≡ orElse (s .worked) (spotOf worked i l)
-  sum-worked s i [] = sym (else-none (s .worked))
-  sum-worked s i (v ∷ vs) = sum-worked (sumWith k s i v) (i + 1) vs ∙ first-else (s .worked) (worked v) i (spotOf worked (i + 1) vs)
-
-  pub sum-asked : (s : Sum) (i : ℕ) (l : List Version) → sumOver k s i l .asked ≡ orElse (s .asked) (spotOf (named k) i l)
-  sum-asked s i [] = sym (else-none (s .asked))
-  sum-asked s i (v ∷ vs) = sum-asked (sumWith k s i v) (i + 1) vs ∙ first-else (s .asked) (named k v) i (spotOf (named k) (i + 1) vs)
-
-max-none : (n : ℕ) → max n 0 ≡ n
-max-none n = omega arith
-
-max-assoc : (a b c : ℕ) → max (max a b) c ≡ max a (max b c)
-max-assoc a b c = omega arith
-
--- each field of a part, by the model's definitions
-module _ (q : Version → Bool) where
-  -- a field that takes the larger of what it was and what a version has
-  pub part-largest : (get : Part → ℕ) (f : Version → ℕ) → ((p : Part) (i : ℕ) (v : Version) → get (partWith true p i v) ≡ max (get p) (f v))
-      → (p : Part) (i : ℕ) (l : List Version) → get (partOver q p i l) ≡ max (get p) (largest f (keep q l))
-  part-largest get f h p i [] = sym (max-none (get p))
-  part-largest get f h p i (v ∷ vs) = go (q v) (part-largest get f h (partWith (q v) p i v) (i + 1) vs)
-    where
-      go : (b : Bool) → get (partOver q (partWith b p i v) (i + 1) vs) ≡ max (get (partWith b p i v)) (largest f (keep q vs))
-          → get (partOver q (partWith b p i v) (i + 1) vs) ≡ max (get p) (largest f (cond b (v ∷ keep q vs) (keep q vs)))
-      go true e = e ∙ ap (λ (n : ℕ). max n (largest f (keep q vs))) (h p i v) ∙ max-assoc (get p) (f v) (largest f (keep q vs))
-      go false e = e
-
-  pub part-sends : (p : Part) (i : ℕ) (l : List Version) → partOver q p i l .sends ≡ p .sends || any sends (keep q l)
-  part-sends p i [] = sym (or-false (p .sends))
-  part-sends p i (v ∷ vs) = go (q v) (part-sends (partWith (q v) p i v) (i + 1) vs)
-    where
-      go : (b : Bool) → partOver q (partWith b p i v) (i + 1) vs .sends ≡ partWith b p i v .sends || any sends (keep q vs)
-          → partOver q (partWith b p i v) (i + 1) vs .sends ≡ p .sends || any sends (cond b (v ∷ keep q vs) (keep q vs))
-      go true e = e ∙ or-assoc (p .sends) (sends v) (any sends (keep q vs))
-      go false e = e
-
-  pub part-live : (p : Part) (i : ℕ) (l : List Version) → partOver q p i l .live ≡ orElse (p .live) (spotOf (λ v. q v && live v) i l)
-  part-live p i [] = sym (else-none (p .live))
-  part-live p i (v ∷ vs) = go (q v) (part-live (partWith (q v) p i v) (i + 1) vs)
-    where
-      rest : Spot
-      rest = spotOf (λ v. q v && live v) (i + 1) vs
-
-      go : (b : Bool) → partOver q (partWith b p i v) (i + 1) vs .live ≡ orElse (partWith b p i v .live) rest
-          → partOver q (partWith b p i v) (i + 1) vs .live ≡ orElse (p .live) (cond (b && live v) (At i) rest)
-      go true e = e ∙ first-else (p .live) (live v) i rest
-      go false e = e
-
--- ---- a spot and the version there
-
--- l stands in t from place i on
-pub record Lies (t l : List Version) (i : ℕ) : Type 0 where
-  pub fits : i + length l ≤ length t
-  pub at : (j : ℕ) → j < length l → versionAt l j ≡ versionAt t (i + j)
-
-lies-tail : (t : List Version) (v : Version) (vs : List Version) (i : ℕ) → Lies t (v ∷ vs) i → Lies t vs (i + 1)
-lies-tail t v vs i h = record { fits = omega (arith, h .fits); at = λ j l. h .at (suc j) (omega arith) ∙ ap (versionAt t) (omega arith) }
-
-module _ (t : List Version) (p : Version → Bool) where
-  pub spot-within : (l : List Version) (i : ℕ) → i + length l ≤ length t → Within (spotOf p i l) (length t)
-  spot-within [] i h = tt
-  spot-within (v ∷ vs) i h = go (p v) (spot-within vs (i + 1) (omega arith))
-    where
-      go : (b : Bool) → Within (spotOf p (i + 1) vs) (length t) → Within (cond b (At i) (spotOf p (i + 1) vs)) (length t)
-      go true r = omega arith
-      go false r = r
-
-  pub spot-found : (l : List Version) (i : ℕ) → Lies t l i → Found t (seenAt t (spotOf p i l)) (first p l)
-  spot-found [] i h = record { is = refl; stands = tt }
-  spot-found (v ∷ vs) i h = go (p v) (spot-found vs (i + 1) (lies-tail t v vs i h))
-    where
-      go : (b : Bool) → Found t (seenAt t (spotOf p (i + 1) vs)) (first p vs) → Found t (seenAt t (cond b (At i) (spotOf p (i + 1) vs))) (cond b (some v) (first p vs))
-      go true r = record { is = ap some (sym (h .at 0 (omega arith) ∙ ap (versionAt t) (omega arith))); stands = (omega (arith, h .fits), refl) }
-      go false r = r
-
--- the first of those that pass q
-pub first-kept : (q p : Version → Bool) (l : List Version) → first (λ v. q v && p v) l ≡ first p (keep q l)
-first-kept q p [] = refl
-first-kept q p (v ∷ vs) = go (q v) (first-kept q p vs)
-  where
-    go : (b : Bool) → first (λ v. q v && p v) vs ≡ first p (keep q vs) → cond (b && p v) (some v) (first (λ v. q v && p v) vs) ≡ first p (cond b (v ∷ keep q vs) (keep q vs))
-    go true e = ap (λ (o : Option Version). cond (p v) (some v) o) e
-    go false e = e
+pub number-places : (t : List Version) (n : ℕ)
+    → (placeIn (n * 65536) t ≤ placeIn ((n + 1) * 65536) t) × (placeIn ((n + 1) * 65536) t ≤ length t)
+number-places t n = (place-up t (n * 65536) ((n + 1) * 65536) (omega arith), place-le ((n + 1) * 65536) t)

@@ -1,37 +1,17 @@
-// What the versions of one number have together: one pass over their rows.
+// What the versions of one number have together: one pass over their rows, from the last to the first.
 use crate::find;
 use model::Id;
 use model::Version;
 use scan::join;
 ghost use mathlib.Core.Path.{_≡_};
+ghost use mathlib.Core.Bool.{cond};
 ghost use Prim.Native.Nat.{_+_, _*_, _≤_, _<_, max};
 ghost use lib.Seq.{slice};
 ghost use Rattle.model.specs.Table.{rowsOf};
 ghost use Rattle.rows.specs.Table.{decode};
 ghost use Rattle.scan.specs.Sound.{SoundTable, itself};
-ghost use Rattle.table.specs.Survey.{firstBy, partWith, sumWith, sumOver, nothing, noSum, Within, seenAt, summaryBy, factsBy, Placed, Surveyed};
-
-// The place of the first version that passed a test.
-pub enum Spot {
-    Nowhere,
-    At(usize),
-}
-
-// Of some versions: the newest number, the largest stamp, whether one is sending, and the live one.
-pub struct Part {
-    pub newest: u16,
-    pub stamp: u32,
-    pub sends: bool,
-    pub live: Spot,
-}
-
-// Of all versions, and of those but the one that is asked for; the worked one; the one that is asked for.
-pub struct Sum {
-    pub all: Part,
-    pub rest: Part,
-    pub worked: Spot,
-    pub asked: Spot,
-}
+ghost use Rattle.table.specs.declared.survey.Seen.the-variants.{One};
+ghost use Rattle.table.specs.Survey.{Surveyed};
 
 // A version, with its place.
 pub enum Seen {
@@ -39,18 +19,16 @@ pub enum Seen {
     One(usize, Version),
 }
 
-// A part, with the version itself.
-pub struct Summary {
+// Of the versions of a number: the newest number, the largest stamp, whether one is sending; of those but the one that is asked for, whether
+// one is sending, which blocks a broadcast, and the live one, which the asked one makes a former; the live one of all, the worked one, and
+// the one that is asked for.
+pub struct Facts {
     pub newest: u16,
     pub stamp: u32,
     pub sends: bool,
+    pub blocked: bool,
+    pub former: Seen,
     pub live: Seen,
-}
-
-// A sum, with the versions themselves.
-pub struct Facts {
-    pub all: Summary,
-    pub rest: Summary,
     pub worked: Seen,
     pub asked: Seen,
 }
@@ -67,130 +45,51 @@ fn larger32(a: u32, b: u32) -> u32
     if a < b { b } else { a }
 }
 
-fn first(s: Spot, passes: bool, i: usize) -> Spot
-    ensures { λ r. ⌜ r ≡ firstBy s passes i ⌝ }
+// The version at place i where it passes, else the one that was seen.
+fn first(passes: bool, i: usize, v: Version, s: Seen) -> Seen
+    ensures { λ r. ⌜ r ≡ cond passes (One i v) s ⌝ }
 {
-    match s {
-        Spot::At(j) => Spot::At(j),
-        Spot::Nowhere => { if passes { Spot::At(i) } else { Spot::Nowhere } }
-    }
+    if passes { Seen::One(i, v) } else { s }
 }
 
-fn part_with(p: Part, counts: bool, i: usize, v: Version) -> Part
-    ensures { λ r. ⌜ r ≡ partWith counts p i v ⌝ }
-{
-    if counts {
-        let live = p.live;
-        return Part {
-            newest: larger16(p.newest, v.id.number),
-            stamp: larger32(p.stamp, v.stamp),
-            sends: p.sends | (v.status == 3),
-            live: first(live, v.live, i),
-        };
-    }
-    p
-}
-
-fn sum_with(s: Sum, k: Id, i: usize, v: Version) -> Sum
-    ensures { λ r. ⌜ r ≡ sumWith k s i v ⌝ }
-{
-    let own = (v.id.tn.0 == k.tn.0) & (v.id.number == k.number);
-    let all = s.all;
-    let rest = s.rest;
-    let worked = s.worked;
-    let asked = s.asked;
-    Sum {
-        all: part_with(all, true, i, v),
-        rest: part_with(rest, !own, i, v),
-        worked: first(worked, join::is_worked(v.status), i),
-        asked: first(asked, own, i),
-    }
-}
-
-// The sum s with the versions from `from` up to, not including, `to`.
-fn over(t: &[u8], n: usize, s: Sum, k: Id, from: usize, to: usize) -> Sum
+// The versions from `from` up to, not including, `to`.
+fn over(t: &[u8], n: usize, k: Id, from: usize, to: usize) -> Facts
     requires { ⌜ SoundTable (now t) n ⌝ }
     requires { ⌜ (from ≤ to) × (to ≤ n) ⌝ }
-    ensures { λ r. ⌜ r ≡ sumOver k s from (slice from to (decode (now (t .entry)))) ⌝ }
+    ensures { λ r. ⌜ Surveyed (decode (now (t .entry))) (slice from to (decode (now (t .entry)))) k r ⌝ }
 {
-    let mut sum = s;
-    let mut i = from;
-    while i < to {
+    let mut newest: u16 = 0;
+    let mut stamp: u32 = 0;
+    let mut sends = false;
+    let mut blocked = false;
+    let mut former = Seen::Nobody;
+    let mut live = Seen::Nobody;
+    let mut worked = Seen::Nobody;
+    let mut asked = Seen::Nobody;
+    let mut i = to;
+    while from < i {
+        i -= 1;
         let v = rows::load(t, i);
-        sum = sum_with(sum, k, i, v);
-        i += 1;
+        let own = (v.id.tn.0 == k.tn.0) & (v.id.number == k.number);
+        let other = !own;
+        newest = larger16(v.id.number, newest);
+        stamp = larger32(v.stamp, stamp);
+        sends = (v.status == 3) | sends;
+        blocked = (other & (v.status == 3)) | blocked;
+        former = first(other & v.live, i, v, former);
+        live = first(v.live, i, v, live);
+        worked = first(join::is_worked(v.status), i, v, worked);
+        asked = first(own, i, v, asked);
     }
-    sum
-}
-
-fn look(t: &[u8], n: usize, s: Spot) -> Seen
-    requires { ⌜ SoundTable (now t) n ⌝ }
-    requires { ⌜ Within s n ⌝ }
-    ensures { λ r. ⌜ r ≡ seenAt (decode (now (t .entry))) s ⌝ }
-{
-    match s {
-        Spot::At(i) => Seen::One(i, rows::load(t, i)),
-        Spot::Nowhere => Seen::Nobody,
-    }
-}
-
-fn part_shown(t: &[u8], n: usize, p: Part) -> Summary
-    requires { ⌜ SoundTable (now t) n ⌝ }
-    requires { ⌜ Within (p .live) n ⌝ }
-    ensures { λ r. ⌜ r ≡ summaryBy (decode (now (t .entry))) p ⌝ }
-{
-    let spot = p.live;
-    let live = look(t, n, spot);
-    Summary {
-        newest: p.newest,
-        stamp: p.stamp,
-        sends: p.sends,
-        live,
-    }
-}
-
-fn shown(t: &[u8], n: usize, s: Sum) -> Facts
-    requires { ⌜ SoundTable (now t) n ⌝ }
-    requires { ⌜ Placed s n ⌝ }
-    ensures { λ r. ⌜ r ≡ factsBy (decode (now (t .entry))) s ⌝ }
-{
-    let part = s.all;
-    let other = s.rest;
-    let work = s.worked;
-    let ask = s.asked;
-    let all = part_shown(t, n, part);
-    let rest = part_shown(t, n, other);
-    let worked = look(t, n, work);
-    let asked = look(t, n, ask);
     Facts {
-        all,
-        rest,
+        newest,
+        stamp,
+        sends,
+        blocked,
+        former,
+        live,
         worked,
         asked,
-    }
-}
-
-fn none() -> Part
-    ensures { λ r. ⌜ r ≡ nothing ⌝ }
-{
-    Part {
-        newest: 0,
-        stamp: 0,
-        sends: false,
-        live: Spot::Nowhere,
-    }
-}
-
-fn empty() -> Sum
-    ensures { λ r. ⌜ r ≡ noSum ⌝ }
-{
-    let all = none();
-    let rest = none();
-    Sum {
-        all,
-        rest,
-        worked: Spot::Nowhere,
-        asked: Spot::Nowhere,
     }
 }
 
@@ -202,6 +101,5 @@ pub fn number(t: &[u8], n: usize, k: Id) -> Facts
 {
     let tn = k.tn;
     let at = find::versions(t, n, tn);
-    let s = over(t, n, empty(), k, at.from, at.to);
-    shown(t, n, s)
+    over(t, n, k, at.from, at.to)
 }

@@ -16,10 +16,17 @@ returns : tie.Need-returns
 returns c = let s = c .before .before .before .before in refused-by _ _ _ _ _ (create-judges _ _ _ _ (s .pre) (c .before .before .before .create .ensures)) _ (c .before .before .number .ensures) (c .before .if1 .taken) (c .refused .ensures)
 
 created-requires : tie.Need-created-requires
-created-requires c κs = let s = c .before .before .before .before in create-room (s .args .e) (s .args .k) (s .args .f) (c .before .before .before .create .result) (s .pre) (c .before .before .before .create .ensures) (done-by (c .before .before .before .create .result) _ (c .before .before .number .ensures) (c .before .if1 .left))
+created-requires c κs =
+    let j = c .before .before in
+    let s = j .before in
+    create-room (s .args .e) (s .args .k) (s .args .f) (j .create .result) (s .pre) (j .create .ensures)
+    (done-by (j .create .result) _ (c .before .number .ensures) (c .if1 .left))
 
 returns-2 : tie.Need-returns-2
-returns-2 c = create-says _ _ _ _ (c .before .before .before .before .before .pre) (c .before .before .before .before .create .ensures) (done-by (c .before .before .before .before .create .result) _ (c .before .before .before .number .ensures) (c .before .before .if1 .left)) _ (c .created .ensures)
+returns-2 c =
+    let j = c .before .before .before in
+    create-says _ _ _ _ (j .before .pre) (j .create .ensures)
+    (done-by (j .create .result) _ (c .before .before .number .ensures) (c .before .if1 .left)) _ (c .created .ensures)
 
 pub on-create-spec : {M : Type 1} → statement M
 on-create-spec =

@@ -16,10 +16,14 @@ returns : tie.Need-returns
 returns c = let s = c .before .before .before .before in refused-by _ _ _ _ _ (other-judges _ _ _ _ _ (s .pre .1 .0) _ (s .pre .1 .1) (s .pre .1 .2) (c .before .before .before .other .ensures)) _ (c .before .before .number .ensures) (c .before .if1 .taken) (c .refused .ensures)
 
 managed-requires : tie.Need-managed-requires
-managed-requires c κs = row-purpose _ (c .before .before .before .before .pre .0 .1)
+managed-requires c κs = row-purpose _ (c .before .before .before .pre .0 .1)
 
 returns-2 : tie.Need-returns-2
-returns-2 c = let s = c .before .before .before .before .before in other-says _ _ _ _ _ (s .pre .1 .0) _ (s .pre .1 .1) (s .pre .1 .2) (c .before .before .before .before .other .ensures) (done-by (c .before .before .before .before .other .result) _ (c .before .before .before .number .ensures) (c .before .before .if1 .left)) _ (c .managed .ensures)
+returns-2 c =
+    let j = c .before .before .before in
+    let p = j .before .pre in
+    other-says _ _ _ _ _ (p .1 .0) _ (p .1 .1) (p .1 .2) (j .other .ensures)
+    (done-by (j .other .result) _ (c .before .before .number .ensures) (c .before .if1 .left)) _ (c .managed .ensures)
 
 pub on-other-spec : {M : Type 1} → statement M
 on-other-spec =

@@ -1,63 +1,111 @@
 -- `survey::over` meets its contract. Assumes nothing.
-use mathlib.Core.Path.{_≡_, refl, sym, ap, _∙_}
+use mathlib.Core.Path.{_≡_, refl, sym, ap, _∙_, subst}
+use mathlib.Core.Bool.{Bool, cond, not, _&&_, _||_}
 use mathlib.Core.List.{[]}
-use Prim.Native.Nat.{_+_, _-_, _≤_, _<_}
+use Prim.Native.Nat.{ℕ, _+_, _-_, _≤_, _<_}
 use native.Mathlib.Omega.{arith}
 use lib.Seq.{slice}
+use Rattle.model.specs.declared.Version.{Version}
+use Rattle.model.specs.Sound.{sends}
 use Rattle.row.specs.Layout.{unpack}
-use Rattle.table.specs.declared.survey.Sum.{Sum}
 use Rattle.rows.specs.Table.{decode}
-use Rattle.table.specs.Survey.{sumWith, sumOver, versionAt}
-use Rattle.table.proofs.Sought.{sound-load}
-use Rattle.table.proofs.Surveys.{sum-step, sum-done}
+use Rattle.table.specs.declared.survey.Seen.{Seen}
+use Rattle.table.specs.declared.survey.Seen.the-variants.{One}
+use Rattle.table.specs.declared.survey.Facts.{Facts}
+use Rattle.table.specs.Survey.{named, Surveyed}
+use Rattle.table.proofs.Numbered.{rises-type}
+use Rattle.table.proofs.Sought.{sound-good, sound-load}
+use Rattle.table.proofs.Surveys.{factsWith, survey-starts, survey-turns, survey-ends}
 use Rattle.table.proofs.survey.over.Statement.{statement}
 use Rattle.table.proofs.survey.over.Tie as tie
 
 abbrev Inv-loop : tie.InvT-loop
-Inv-loop t n k from to sum₀ i₀ sum i = (from ≤ i) × ((i ≤ to) × (sumOver k sum i (slice i to (decode t)) ≡ sumOver k sum₀ from (slice from to (decode t))))
+Inv-loop t n k from to newest₀ stamp₀ sends₀ blocked₀ former₀ live₀ worked₀ asked₀ i₀ newest stamp sends blocked former live worked asked i =
+    (from ≤ i) × ((i ≤ to) × Surveyed (decode t) (slice i to (decode t)) k
+    (record { newest = newest; stamp = stamp; sends = sends; blocked = blocked; former = former; live = live; worked = worked; asked = asked }))
 
 abbrev μ-loop : tie.MeasureT-loop
-μ-loop t n k from to sum₀ i₀ sum i = to - i
+μ-loop t n k from to newest₀ stamp₀ sends₀ blocked₀ former₀ live₀ worked₀ asked₀ i₀ newest stamp sends blocked former live worked asked i = i - from
 
 loop-holds : tie.Need-loop-holds Inv-loop μ-loop
-loop-holds c = (omega arith, (omega arith, refl))
+loop-holds c =
+    let a = c .before .args in
+    (omega (arith, c .before .pre .1), (omega arith, survey-starts (decode (a .t .now)) (a .k) (a .to)))
+
+sub-i : tie.Need-sub-i Inv-loop μ-loop
+sub-i c = omega arith
 
 load-requires : tie.Need-load-requires Inv-loop μ-loop
-load-requires c κs = omega (arith, c .before .before .before .pre .0 .whole, c .before .before .before .pre .0 .room)
+load-requires c κs =
+    let st = c .before .before .before in
+    omega (arith, c .before .loop .inv .1 .0, st .pre .1, st .pre .0 .whole, st .pre .0 .room)
 
-sum-with-requires : tie.Need-sum-with-requires Inv-loop μ-loop
-sum-with-requires c κs = tt
+larger16-requires : tie.Need-larger16-requires Inv-loop μ-loop
+larger16-requires c κs = tt
 
-add-i : tie.Need-add-i Inv-loop μ-loop
-add-i c = omega arith
+larger32-requires : tie.Need-larger32-requires Inv-loop μ-loop
+larger32-requires c κs = tt
+
+first-requires : tie.Need-first-requires Inv-loop μ-loop
+first-requires c κs = tt
+
+first-requires-2 : tie.Need-first-requires-2 Inv-loop μ-loop
+first-requires-2 c κs = tt
+
+is-worked-requires : tie.Need-is-worked-requires Inv-loop μ-loop
+is-worked-requires c κs = tt
+
+first-requires-3 : tie.Need-first-requires-3 Inv-loop μ-loop
+first-requires-3 c κs = tt
+
+first-requires-4 : tie.Need-first-requires-4 Inv-loop μ-loop
+first-requires-4 c κs = tt
 
 loop-less : tie.Need-loop-less Inv-loop μ-loop
-loop-less c = omega arith
+loop-less c =
+    let l = c .before .before .before .before .before .before .before .before .before .before .before .before .before .before .before in
+    omega (arith, l .loop-test .taken)
 
 loop-again : tie.Need-loop-again Inv-loop μ-loop
 loop-again c =
-    let at = c .before .before .before in
+    let w = c .before .before .before .before .before .before .before .before .before in
+    let ld = w .before .before .before .before .before in
+    let at = ld .before .before in
     let st = at .before .before in
     let a = st .args in
-    let t = a .t .now in
-    let i = at .loop .i in
-    let vs = decode t in
-    let h : i < a .n = omega (arith, st .pre .1) in
-    let e : c .sum-with .result ≡ sumWith (a .k) (at .loop .sum) i (versionAt vs i)
-    = c .sum-with .ensures ∙ ap (sumWith (a .k) (at .loop .sum) i) (c .before .load .ensures ∙ sound-load t (a .n) (st .pre .0) i (unpack []) h) in (
-      omega arith,
+    let vs = decode (a .t .now) in
+    let i = at .loop .i - 1 in
+    let v = ld .load .result in
+    let h : i < a .n = omega (arith, ld .before .loop-test .taken, at .loop .inv .1 .0, st .pre .1) in (
+      omega (arith, ld .before .loop-test .taken),
       (
-        omega arith,
-        ap (λ (z : Sum). sumOver (a .k) z (i + 1) (slice (i + 1) (a .to) vs)) e
-            ∙ sym (sum-step (a .k) vs i (a .to) (at .loop .sum) (c .before .before .loop-test .taken) (omega (arith, st .pre .0 .count, st .pre .1))) ∙ at .loop .inv .1 .1,
+        omega (arith, at .loop .inv .1 .0),
+        survey-turns vs (a .k) (a .to) i (at .loop .i) v _ _
+            (omega (arith, ld .before .loop-test .taken))
+            (omega (arith, ld .before .loop-test .taken, at .loop .inv .1 .0))
+            (omega (arith, st .pre .1, st .pre .0 .count))
+            (rises-type vs 0 (sound-good (a .t .now) (a .n) (st .pre .0) .sound) (sound-good (a .t .now) (a .n) (st .pre .0) .rises))
+            (ld .load .ensures ∙ sound-load (a .t .now) (a .n) (st .pre .0) i (unpack []) h)
+            (λ x. record {
+              newest = w .larger16 .ensures x;
+              stamp = c .before .before .before .before .before .before .before .before .larger32 .ensures x;
+              sends = sends v || at .loop .sends;
+              blocked = (not (named (a .k) v) && sends v) || at .loop .blocked;
+              former = c .before .before .before .before .first .ensures x;
+              live = c .before .before .before .first2 .ensures x;
+              worked =
+                  (c .before .first3 .ensures
+                  ∙ ap (λ (b : Bool). cond b (One i v) (at .loop .worked)) (c .before .before .is-worked .ensures)) x;
+              asked = c .first4 .ensures x;
+            })
+            (at .loop .inv .1 .1),
       ),
     )
 
 returns : tie.Need-returns Inv-loop μ-loop
 returns c =
-    let at = c .before in
-    let a = at .before .before .args in
-    sym (sum-done (a .k) (decode (a .t .now)) (at .loop .i) (a .to) (at .loop .sum) (omega arith)) ∙ at .loop .inv .1 .1
+    let a = c .before .before .before .args in
+    survey-ends (decode (a .t .now)) (a .k) (a .to) (c .before .loop .i) (a .from) _ (omega (arith, c .loop-test .left)) (c .before .loop .inv .1 .1)
 
 pub over-spec : {M : Type 1} → statement M
 over-spec =
@@ -66,9 +114,15 @@ over-spec =
     Inv-loop
     μ-loop
     loop-holds
+    sub-i
     load-requires
-    sum-with-requires
-    add-i
+    larger16-requires
+    larger32-requires
+    first-requires
+    first-requires-2
+    is-worked-requires
+    first-requires-3
+    first-requires-4
     loop-less
     loop-again
     returns)
