@@ -88,7 +88,8 @@ module _ (m : Mail) (places : ℕ) (l : length (messagesOf m) ≤ places) (s : A
     pub both-counted : (j k : ℕ) → j ≡ length (runOf a) → k ≡ length (runOf b) → j + k ≤ places
     both-counted j k p q = omega (arith, both, p, q)
 
-pub told-two : (a b : Run) (t u w : List ℕ) (j k : ℕ) → Told (runOf a) 0 t u j → Told (runOf b) j u w k → Told (runOf a ++ runOf b) 0 t w (j + k)
+pub told-two : (a b : Run) (t u w : List ℕ) (j k : ℕ) → Told (runOf a) 0 t u j → Told (runOf b) j u w k
+    → Told (runOf a ++ runOf b) 0 t w (j + k)
 told-two a b t u w j k g h =
     let z : length (runOf a) ≡ 0 + length (runOf a) = omega arith in record {
       tray = h .tray ∙ ap₂ (λ (l : List ℕ) (i : ℕ). putAll l i (runOf b)) (g .tray) (g .said ∙ z) ∙ put-append (runOf a) (runOf b) t 0;

@@ -60,24 +60,33 @@ pub tn-small : (e : Event) → wellFormed e ≡ true → e .tn .0 < 2 ^ 34
 unfolding wellFormed fitsBits
 tn-small e h =
     let bits : List Bool =
-    ltb (e .kind) (2 ^ 8) ∷ ltb (e .sender) (2 ^ 6) ∷ ltb (e .other) (2 ^ 6) ∷ ltb (e .mark) (2 ^ 2) ∷ ltb (e .cause) (2 ^ 8) ∷ ltb (e .tn .0) (2 ^ 34)
+    ltb (e .kind) (2 ^ 8) ∷ ltb (e .sender) (2 ^ 6) ∷ ltb (e .other) (2 ^ 6) ∷ ltb (e .mark) (2 ^ 2) ∷ ltb (e .cause) (2 ^ 8) ∷ ltb
+    (e .tn .0) (2 ^ 34)
     ∷ ltb (e .lrn .0) (2 ^ 34) ∷ ltb (e .version) (2 ^ 16) ∷ ltb (e .time) (2 ^ 32) ∷ ltb (e .due) (2 ^ 32) ∷ [] in
     ltb-true (e .tn .0) (2 ^ 34) (conj-at bits (conj-at (fitsBits e ∷ tenDigits (e .tn .0) ∷ named (e .time) ∷ kindFits e ∷ []) h 0) 5)
 
 -- ---- over a sound table
-module _ (m : Marks) (b : List ℕ) (most : ℕ) (t : List ℕ) (n : ℕ) (e : Event) (few : most ≤ 7) (st : SoundTable t n) (formed : wellFormed e ≡ true) where
+module _ (m : Marks) (b : List ℕ) (most : ℕ) (t : List ℕ) (n : ℕ) (e : Event) (few : most ≤ 7) (st : SoundTable t n)
+    (formed : wellFormed e ≡ true) where
   abbrev G : Given
   G = givenTo m b most t e
 
   pub ground : Ground itself (e .tn .0) (G .rows)
   ground =
       let s = table-says itself (rowsIn t) (decode t) (st .sound) in
-      record { own = rows-rows itself (e .tn .0) (decode t); rising = rising-part _ (decode t) (s .sound .rising); rows = all-keep _ (s .sound .rows); line = s .sound .lines (e .tn .0) }
+      record {
+        own = rows-rows itself (e .tn .0) (decode t);
+        rising = rising-part _ (decode t) (s .sound .rising);
+        rows = all-keep _
+            (s .sound .rows);
+        line = s .sound .lines (e .tn .0);
+      }
 
   pub rule-rows : All (Brings Row) (rule G .does)
   rule-rows =
       rw formed at
-      (keeps-rule itself (record { books = decodeBooks m b; most = most; rows = 0; places = 0 }) (le-leb most 7 few) (G .free) e (G .rows) ground .rows)
+      (keeps-rule itself (record { books = decodeBooks m b; most = most; rows = 0; places = 0 }) (le-leb most 7 few) (G .free) e (G .rows)
+      ground .rows)
 
 -- ---- rows that sit and fit may be changed
 
@@ -90,10 +99,12 @@ over-held t n i w c h r = record { place = let l : i < length t = h .0 in omega 
 tail-of : {x : Change} {xs : List Change} → All (Brings Row) (x ∷ xs) → All (Brings Row) xs
 tail-of (with p ps) = ps
 
-may-change : (t : List Version) (n cap : ℕ) (free : Bool) (r : Rows) → length t ≡ n → free ≡ ltb n cap → Sits t free r → All (Brings Row) (changesOf r) → Applicable t n cap r
+may-change : (t : List Version) (n cap : ℕ) (free : Bool) (r : Rows) → length t ≡ n → free ≡ ltb n cap → Sits t free r
+    → All (Brings Row) (changesOf r) → Applicable t n cap r
 may-change t n cap free Nothing c q s a = tt
 may-change t n cap free (Put i v) c q s a = over-held t n i v c s (head-of a)
-may-change t n cap free (PutTwo i v j w) c q s a = (over-held t n i v c (s .0) (head-of a), over-held t n j w c (s .1) (head-of (tail-of a)))
+may-change t n cap free (PutTwo i v j w) c q s a =
+    (over-held t n i v c (s .0) (head-of a), over-held t n j w c (s .1) (head-of (tail-of a)))
 may-change t n cap free (Add v) c q s a = record { free = ltb-true n cap (sym q ∙ s .0); absent = s .1; small = row-small v (head-of a) }
 may-change t n cap free (Strike i k) c q s a = (let l : i < length t = s .0 in omega arith, s .1)
 
@@ -102,7 +113,8 @@ small-of nothing = nothing
 small-of (with h hs) = with (h .small) (small-of hs)
 
 -- ---- one event
-module _ (m : Marks) (b : List ℕ) (most : ℕ) (t : List ℕ) (n : ℕ) (e : Event) (places : ℕ) (st : SoundTable t n) (rd : Ready m b e places) (few : most ≤ 7) (f : Facts) (k : Known)
+module _ (m : Marks) (b : List ℕ) (most : ℕ) (t : List ℕ) (n : ℕ) (e : Event) (places : ℕ) (st : SoundTable t n) (rd : Ready m b e places)
+    (few : most ≤ 7) (f : Facts) (k : Known)
     (sv : Surveyed (decode t) (rowsOf itself (e .tn .0) (decode t)) (nameIn e) f) (kn : KnownTo m b most (ltb n (rowsIn t)) e k) where
   abbrev Rows-of : List Version
   Rows-of = rowsOf itself (e .tn .0) (decode t)
@@ -121,7 +133,11 @@ module _ (m : Marks) (b : List ℕ) (most : ℕ) (t : List ℕ) (n : ℕ) (e : E
     owner = kn .owner;
     selected = kn .selected;
     survey = sv;
-    lives = record { only = others-live (rowsIn t) (decode t) (st .sound) (nameIn e) ∙ ap listOf (sym (sv .former .is)); stands = sv .former .stands };
+    lives = record {
+      only = others-live (rowsIn t) (decode t) (st .sound) (nameIn e) ∙ ap listOf (sym (sv .former .is));
+      stands = sv .former
+          .stands;
+    };
     fresh = λ j l. fresh-absent (record { tn = e .tn; number = j }) (decode t) l;
   }
 
@@ -150,7 +166,9 @@ module _ (m : Marks) (b : List ℕ) (most : ℕ) (t : List ℕ) (n : ℕ) (e : E
     modest = modest-rule (givenTo m b most t e)
 
     pub may-apply : Applicable (decode t) n (rowsIn t) (v .rows)
-    may-apply = may-change (decode t) n (rowsIn t) (k .free) (v .rows) (st .count) (kn .free) (says .sits) (subst (All (Brings Row)) (sym does-is) brought)
+    may-apply =
+        may-change (decode t) n (rowsIn t) (k .free) (v .rows) (st .count) (kn .free) (says .sits)
+        (subst (All (Brings Row)) (sym does-is) brought)
 
     pub may-deliver : (length (messagesOf (v .mail)) ≤ places) × All Small (messagesOf (v .mail))
     may-deliver =
@@ -159,7 +177,8 @@ module _ (m : Marks) (b : List ℕ) (most : ℕ) (t : List ℕ) (n : ℕ) (e : E
           small-of (rule-mail (givenTo m b most t e) (ground m b most t n e few st (rd .formed) .rows) (rd .formed) brought),
         )
 
-    pub did : (y u z : List ℕ) (c : ℕ) (a : Answer) → u ≡ encode (changes (changesOf (v .rows)) (decode t)) (rowsIn t) → Told (messagesOf (v .mail)) 0 y z c → a ≡ answerOf (v .out) c
+    pub did : (y u z : List ℕ) (c : ℕ) (a : Answer) → u ≡ encode (changes (changesOf (v .rows)) (decode t)) (rowsIn t)
+        → Told (messagesOf (v .mail)) 0 y z c → a ≡ answerOf (v .out) c
         → Did X t y u z a
     did y u z c a p g q = record {
       outcome = ap (λ (x : Answer). x .outcome) q ∙ ap (λ (x : Result). numberOf (x .out)) (says .is);
@@ -168,7 +187,8 @@ module _ (m : Marks) (b : List ℕ) (most : ℕ) (t : List ℕ) (n : ℕ) (e : E
       tray = g .tray ∙ ap (putAll y 0) sent-is;
     }
       where
-        go : (o : Bool) → isDone (X .out) ≡ o → encode (changes (X .does) (decode t)) (rowsIn t) ≡ cond o (encode (changes (X .does) (decode t)) (rowsIn t)) t
+        go : (o : Bool) → isDone (X .out) ≡ o
+            → encode (changes (X .does) (decode t)) (rowsIn t) ≡ cond o (encode (changes (X .does) (decode t)) (rowsIn t)) t
         go true h = refl
         go false h = ap (λ (cs : List Change). encode (changes cs (decode t)) (rowsIn t)) (modest .nothing-done h) ∙ sym (st .is)
 

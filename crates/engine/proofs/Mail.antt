@@ -40,12 +40,15 @@ module _ (l : Listed) (b : List ℕ) (most : ℕ) (xs t y : List ℕ) (bytes : B
       refused : (o : Outcome) → X ≡ refuse o → All Fits (X .sent)
       refused o q = subst (λ (x : Result). All Fits (x .sent)) (sym q) none
 
-      go : (d : Bool) → lentSound l b most xs t y ≡ d → (x : Reading) → readEvent xs ≡ x → (s : Soundness) → soundnessOf t ≡ s → All Fits (X .sent)
+      go : (d : Bool) → lentSound l b most xs t y ≡ d → (x : Reading) → readEvent xs ≡ x → (s : Soundness) → soundnessOf t ≡ s
+          → All Fits (X .sent)
       go false q x r s k = refused outcome.Unsound (unlent l b most xs t y bytes q)
       go true q x r Unsound k = clash (rw k at q)
-      go true q Malformed r (Sound n) k = refused outcome.Malformed (fit-malformed l b most xs t y n (sound-says t n bytes k) k (rw k at q) r)
+      go true q Malformed r (Sound n) k =
+          refused outcome.Malformed (fit-malformed l b most xs t y n (sound-says t n bytes k) k (rw k at q) r)
       go true q (Record e) r (Sound n) k =
           let st = sound-says t n bytes k in
           let p = fit-ready l b most xs t y n st k (rw k at q) e r in
           subst (λ (x : Result). All Fits (x .sent)) (sym (fit-rule l b most xs t y n st k (rw k at q) e r))
-          (rule-mail (givenTo (l .marks) b most t e) (ground (l .marks) b most t n e (p .1) st (p .0 .formed) .rows) (p .0 .formed) (rule-rows (l .marks) b most t n e (p .1) st (p .0 .formed)))
+          (rule-mail (givenTo (l .marks) b most t e) (ground (l .marks) b most t n e (p .1) st (p .0 .formed) .rows) (p .0 .formed)
+          (rule-rows (l .marks) b most t n e (p .1) st (p .0 .formed)))

@@ -19,7 +19,8 @@ use Rattle.model.specs.Changes.{modified, turns, cancelled, acknowledged, resol
 use Rattle.model.specs.Broadcast.{opened, broadcasts}
 use Rattle.model.specs.Answers.{answering, again, heard, askedAgain, answers}
 use Rattle.model.specs.Closing.{open?, closed, closingTold, settled, settlingTold}
-use Rattle.model.specs.Tray.{membersTo, members, message, noLrn, toSoas, sidesTold, restatedTold, statusTold, attributesTold, downloadTo, downloads}
+use Rattle.model.specs.Tray.{membersTo, members, message, noLrn, toSoas, sidesTold, restatedTold, statusTold, attributesTold, downloadTo}
+use Rattle.model.specs.Tray.{downloads}
 use Rattle.model.specs.Step.{manages, accepted, rule}
 use Rattle.model.proofs.Lists.{head-of}
 use Rattle.model.proofs.Ways.{by-way, by-worked, by-kind, by-order}
@@ -44,14 +45,16 @@ all-append (with h hs) k = with h (all-append hs k)
 row-room : (w : Version) → Row w → Room w
 row-room w r = sound-room w (of-row w r)
 
-soa-fits : (w : Version) → Room w → (sort failed p : ℕ) (lrn : Lrn) → sort < 16 → failed < 2 ^ 64 → p < 64 → lrn .0 < 2 ^ 34 → Fits (message w false sort failed p lrn)
+soa-fits : (w : Version) → Room w → (sort failed p : ℕ) (lrn : Lrn) → sort < 16 → failed < 2 ^ 64 → p < 64 → lrn .0 < 2 ^ 34
+    → Fits (message w false sort failed p lrn)
 soa-fits w s sort failed p lrn a b c d = record {
   small = record { tn = s .small .tn; status = s .small .status; provider = c; sort = a; lrn = d };
   number = s .number;
   failed = b;
 }
 
-sides-fit : (w : Version) → Room w → (sort failed : ℕ) (lrn : Lrn) → sort < 16 → failed < 2 ^ 64 → lrn .0 < 2 ^ 34 → All Fits (toSoas w sort failed lrn (sidesTold w))
+sides-fit : (w : Version) → Room w → (sort failed : ℕ) (lrn : Lrn) → sort < 16 → failed < 2 ^ 64 → lrn .0 < 2 ^ 34
+    → All Fits (toSoas w sort failed lrn (sidesTold w))
 sides-fit w s sort failed lrn a b d =
     with (soa-fits w s sort failed (w .old .provider) lrn a b (s .small .old) d)
     (with (soa-fits w s sort failed (w .new .provider) lrn a b (s .small .new) d) none)
@@ -79,9 +82,11 @@ download-fits w s p h = record {
   failed = omega arith;
 }
 
-members-fit : (w : Version) → Room w → (set n : ℕ) (l : List ℕ) → n < 64 → All Fits (map (downloadTo w) l) → All Fits (map (downloadTo w) (membersTo set n l))
+members-fit : (w : Version) → Room w → (set n : ℕ) (l : List ℕ) → n < 64 → All Fits (map (downloadTo w) l)
+    → All Fits (map (downloadTo w) (membersTo set n l))
 members-fit w s set zero l h k = k
-members-fit w s set (suc n) l h k = go (member set (suc n)) (members-fit w s set n (suc n ∷ l) (omega arith)) (members-fit w s set n l (omega arith))
+members-fit w s set (suc n) l h k =
+    go (member set (suc n)) (members-fit w s set n (suc n ∷ l) (omega arith)) (members-fit w s set n l (omega arith))
   where
     go : (b : Bool) → (All Fits (map (downloadTo w) (suc n ∷ l)) → All Fits (map (downloadTo w) (membersTo set n (suc n ∷ l))))
         → (All Fits (map (downloadTo w) l) → All Fits (map (downloadTo w) (membersTo set n l)))
@@ -99,7 +104,8 @@ closing-fits w s = go (eqb (w .cast .purpose) 1)
   where
     go : (b : Bool) → All Fits (toSoas (closed w) 2 (w .cast .failed) noLrn (cond b (sidesTold w) (w .new .provider ∷ [])))
     go true = sides-fit (closed w) s 2 (w .cast .failed) noLrn (omega arith) (s .failed) (omega arith)
-    go false = with (soa-fits (closed w) s 2 (w .cast .failed) (w .new .provider) noLrn (omega arith) (s .failed) (s .small .new) (omega arith)) none
+    go false = with (soa-fits (closed w) s 2 (w .cast .failed) (w .new .provider) noLrn (omega arith) (s .failed) (s .small .new)
+        (omega arith)) none
 
 -- what a version tells that stays open or closes
 settling-fits : (w : Version) → Row (settled w) → All Fits (settlingTold w)
@@ -135,7 +141,8 @@ marks-mail : (e : Event) (v : Version) → Mails (windowMarks e v)
 marks-mail e v = record {
   fit = λ h.
       let s = row-room (windowMarked e v) (head-of h) in
-      with (soa-fits (windowMarked e v) s 7 0 (windowMarked e v .old .provider) noLrn (omega arith) (omega arith) (s .small .old) (omega arith)) none;
+      with (soa-fits (windowMarked e v) s 7 0 (windowMarked e v .old .provider) noLrn (omega arith) (omega arith) (s .small .old)
+      (omega arith)) none;
 }
 
 manages-mail : (bk : Books) (e : Event) (v : Version) (others : List Version) → Mails (manages bk e v others)
@@ -154,12 +161,16 @@ manages-mail bk e v others = by-way Mails bk e v others (record {
 creates-mail : (e : Event) (r : List Version) → Mails (creates e r)
 creates-mail e r =
     by-worked Mails e r
-    (λ _. record { fit = λ h. sides-fit (freshVersion e r) (row-room (freshVersion e r) (head-of h)) 1 0 noLrn (omega arith) (omega arith) (omega arith) })
+    (λ _. record {
+      fit = λ h. sides-fit (freshVersion e r) (row-room (freshVersion e r) (head-of h)) 1 0 noLrn (omega arith) (omega arith)
+          (omega arith);
+    })
     (λ v _. restates-mail v (concurred e v))
 
 answers-mail : (most : ℕ) (e : Event) (v : Version) (others : List Version) → Row v → answering e < 64 → Mails (answers most e v others)
 unfolding answers askedAgain
-answers-mail most e v others r p = record { fit = λ h. all-append (go (again most e (v .cast))) (settling-fits (heard most e v) (head-of h)) }
+answers-mail most e v others r p =
+    record { fit = λ h. all-append (go (again most e (v .cast))) (settling-fits (heard most e v) (head-of h)) }
   where
     go : (b : Bool) → All Fits (cond b (downloadTo v (answering e) ∷ []) [])
     go true = with (download-fits v (row-room v r) (answering e) p) none

@@ -44,16 +44,31 @@ no-due e (some v) h = rw h
 
 module _ (t : List Version) (g : Given) (f : Facts) (s : Surveyed t (g .rows) (nameIn (g .event)) f) where
   pub create-judged : isCreate (g .event .kind) ≡ true
-      → createFor (g .event) (absent (g .books) (g .event)) (ownerOf (g .books) (codeOf (g .event .tn))) f (g .free) ≡ judge (refuses g) (orderOf (g .event .kind))
+      → createFor (g .event) (absent (g .books) (g .event)) (ownerOf (g .books) (codeOf (g .event .tn))) f (g .free) ≡ judge (refuses g)
+      (orderOf (g .event .kind))
   unfolding createFor early busy notCurrent unfit exhausted full currentFor
   create-judged k =
       let c = create-answer (g .event .kind) k in
-      rw (k, k, c .0, no-due (g .event) (found g) (c .1), or-false (ltb (g .event .time) (lastStamp (g .rows))), s .newest, s .stamp, s .sending, s .live .is, s .worked .is)
+      rw (
+        k,
+        k,
+        c .0,
+        no-due (g .event) (found g) (c .1),
+        or-false (ltb (g .event .time) (lastStamp (g .rows))),
+        s .newest,
+        s .stamp,
+        s
+            .sending,
+        s .live .is,
+        s .worked .is,
+      )
 
-  pub unknown-judged : isCreate (g .event .kind) ≡ false → found g ≡ none → unknownBy (absent (g .books) (g .event)) ≡ judge (refuses g) (orderOf (g .event .kind))
+  pub unknown-judged : isCreate (g .event .kind) ≡ false → found g ≡ none
+      → unknownBy (absent (g .books) (g .event)) ≡ judge (refuses g) (orderOf (g .event .kind))
   unknown-judged c q = go (isAnswer (g .event .kind)) refl
     where
-      go : (b : Bool) → isAnswer (g .event .kind) ≡ b → unknownBy (absent (g .books) (g .event)) ≡ judge (refuses g) (orderOf (g .event .kind))
+      go : (b : Bool) → isAnswer (g .event .kind) ≡ b
+          → unknownBy (absent (g .books) (g .event)) ≡ judge (refuses g) (orderOf (g .event .kind))
       go true a = rw (c, a, q)
       go false a = rw (c, a, q)
 

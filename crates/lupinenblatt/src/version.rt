@@ -3,7 +3,9 @@ ghost use mathlib.Core.Path.{_≡_};
 ghost use Rattle.lupinenblatt.specs.Version.{version};
 
 const MAJOR: u64 = 0;
+
 const MINOR: u64 = 2;
+
 const PATCH: u64 = 0;
 
 // A million for each major, a thousand for each minor, one for each patch.

@@ -60,7 +60,8 @@ module _ (e : Event) (k : Known) (f : Facts) (o : Outcome) (v : Verdict) (j : Ju
   pub refused-by : (n : ℕ) → n ≡ numberOf o → (n ≡ 0 → ⊥) → v ≡ refusedBy o → Decides e k f v
   refused-by n q z = refused-says (other-refused o (λ h. z (q ∙ h)))
 
-  accepted-says : isDone o ≡ true → ((bk : Books) (r t : List Version) → Facing bk r t e k f → Says (accepted (givenBy bk k e r)) t (k .free) v) → Decides e k f v
+  accepted-says : isDone o ≡ true
+      → ((bk : Books) (r t : List Version) → Facing bk r t e k f → Says (accepted (givenBy bk k e r)) t (k .free) v) → Decides e k f v
   unfolding rule
   accepted-says on s bk r t fc = rw (← j bk r t fc, on) (s bk r t fc)
 
@@ -68,7 +69,8 @@ pub done-by : (o : Outcome) (n : ℕ) → n ≡ numberOf o → n ≡ 0 → isDon
 done-by o n q z = ap isDone (zero-done o (sym q ∙ z))
 
 -- ---- creates
-module _ (e : Event) (k : Known) (f : Facts) (o : Outcome) (c : isCreate (e .kind) ≡ true) (q : o ≡ createFor e (k .absent) (k .owner) f (k .free)) where
+module _ (e : Event) (k : Known) (f : Facts) (o : Outcome) (c : isCreate (e .kind) ≡ true)
+    (q : o ≡ createFor e (k .absent) (k .owner) f (k .free)) where
   pub create-judges : Judges e k f o
   create-judges bk r t fc = q ∙ rw (fc .absent, fc .owner c) (create-judged t (givenBy bk k e r) f (fc .survey) c)
 
@@ -76,16 +78,20 @@ module _ (e : Event) (k : Known) (f : Facts) (o : Outcome) (c : isCreate (e .kin
     pub create-room : theOne (f .worked) ≡ none → f .newest < 65535
     unfolding createFor
     create-room w =
-        leb-false 65535 (f .newest) (rw w at (refusal-passed (testOf createOrder (createTests e (k .absent) (k .owner) f (k .free))) createOrder Exhausted refl refl (ap isDone (sym q) ∙ d)))
+        leb-false 65535 (f .newest) (rw w at (refusal-passed (testOf createOrder (createTests e (k .absent) (k .owner) f (k .free)))
+        createOrder Exhausted refl refl (ap isDone (sym q) ∙ d)))
 
     create-free : theOne (f .worked) ≡ none → k .free ≡ true
     unfolding createFor
-    create-free w = not-false (k .free) (rw w at (refusal-passed (testOf createOrder (createTests e (k .absent) (k .owner) f (k .free))) createOrder Full refl refl (ap isDone (sym q) ∙ d)))
+    create-free w =
+        not-false (k .free) (rw w at (refusal-passed (testOf createOrder (createTests e (k .absent) (k .owner) f (k .free))) createOrder
+        Full refl refl (ap isDone (sym q) ∙ d)))
 
     pub create-says : (v : Verdict) → Creates e (f .newest) (f .worked) v → Decides e k f v
     unfolding accepted
     create-says v s =
-        accepted-says e k f o v create-judges d (λ bk r t fc. rw c (s t r (k .free) (fc .survey .newest) (fc .survey .worked .is) (fc .survey .worked .stands) (λ w.
+        accepted-says e k f o v create-judges d (λ bk r t fc. rw c (s t r (k .free) (fc .survey .newest) (fc .survey .worked .is)
+        (fc .survey .worked .stands) (λ w.
         (create-free w, fc .fresh (f .newest + 1) (let h = fc .survey .newest in omega arith)))))
 
 -- ---- a version that is named
@@ -113,10 +119,12 @@ answer-create k h = go (eqb k 11) refl (eqb k 12) refl
     go false p false q = clash (rw (p, q) at h)
 
 -- nobody of that name
-pub unknown-says : (e : Event) (k : Known) (f : Facts) (o : Outcome) (v : Verdict) → isCreate (e .kind) ≡ false → f .asked ≡ Nobody → o ≡ unknownBy (k .absent) → v ≡ refusedBy o
+pub unknown-says : (e : Event) (k : Known) (f : Facts) (o : Outcome) (v : Verdict) → isCreate (e .kind) ≡ false → f .asked ≡ Nobody
+    → o ≡ unknownBy (k .absent) → v ≡ refusedBy o
     → Decides e k f v
 unknown-says e k f o v c q p =
-    refused-says e k f o v (λ bk r t fc. p ∙ rw (fc .absent) (unknown-judged t (givenBy bk k e r) f (fc .survey) c (is-found e k f bk r t fc Nobody q))) (subst (λ (x : Outcome). isDone x ≡ false) (sym p) (off (k .absent)))
+    refused-says e k f o v (λ bk r t fc. p ∙ rw (fc .absent) (unknown-judged t (givenBy bk k e r) f (fc .survey) c
+    (is-found e k f bk r t fc Nobody q))) (subst (λ (x : Outcome). isDone x ≡ false) (sym p) (off (k .absent)))
   where
     off : (b : Bool) → isDone (unknownBy b) ≡ false
     off true = refl
@@ -127,13 +135,15 @@ module _ (e : Event) (k : Known) (f : Facts) (i : ℕ) (v : Version) (q : f .ask
   module _ (a : isAnswer (e .kind) ≡ true) (p : o ≡ answerFor e (k .absent) v) where
     pub answer-judges : Judges e k f o
     answer-judges bk r t fc =
-        p ∙ rw (fc .absent) (answer-judged t (givenBy bk k e r) f (fc .survey) v (answer-create (e .kind) a) a (is-found e k f bk r t fc (One i v) q))
+        p ∙ rw (fc .absent) (answer-judged t (givenBy bk k e r) f (fc .survey) v (answer-create (e .kind) a) a
+        (is-found e k f bk r t fc (One i v) q))
 
     pub answer-says : isDone o ≡ true → (w : Verdict) → Settles (answers (k .most) e v) i (v .id) (f .former) w → Decides e k f w
     unfolding accepted
     answer-says d w s =
         accepted-says e k f o w answer-judges d (λ bk r t fc.
-        rw (answer-create (e .kind) a, a, is-found e k f bk r t fc (One i v) q) (s t (others (nameIn e) r) (k .free) (is-held e k f bk r t fc i v q) (fc .lives)))
+        rw (answer-create (e .kind) a, a, is-found e k f bk r t fc (One i v) q)
+        (s t (others (nameIn e) r) (k .free) (is-held e k f bk r t fc i v q) (fc .lives)))
 
   -- ---- all others
   module _ (c : isCreate (e .kind) ≡ false) (a : isAnswer (e .kind) ≡ false) (p : o ≡ otherFor e (k .absent) f v) where
@@ -146,7 +156,8 @@ module _ (e : Event) (k : Known) (f : Facts) (i : ℕ) (v : Version) (q : f .ask
     other-says d w s =
         accepted-says e k f o w other-judges d (λ bk r t fc.
         rw (c, a, is-found e k f bk r t fc (One i v) q)
-        (s bk (λ b. fc .selected b ∙ ap (λ (x : Id). selectedFor bk (x .tn)) (sym (is-named e k f bk r t fc i v q))) t (others (nameIn e) r) (k .free)
+        (s bk (λ b. fc .selected b ∙ ap (λ (x : Id). selectedFor bk (x .tn)) (sym (is-named e k f bk r t fc i v q))) t (others (nameIn e) r)
+        (k .free)
         (is-held e k f bk r t fc i v q) (fc .lives)))
 
 -- ---- what the functions ask of a sound version
@@ -158,9 +169,12 @@ row-purpose v r = leb-true (v .cast .purpose) 3 (cast-ranges (v .cast) (r .range
 waits-of : (v : Version) (p : ℕ) → Row v → 1 ≤ p → p < 64 → member (v .cast .waiting) p ≡ true → Waits (v .cast) p
 unfolding setsApart retriesInRange
 waits-of v p r l m h =
-    let sets : List Bool = apart (v .cast .confirmed) (v .cast .waiting) ∷ apart (v .cast .confirmed) (v .cast .failed) ∷ apart (v .cast .waiting) (v .cast .failed) ∷ [] in
+    let sets : List Bool =
+    apart (v .cast .confirmed) (v .cast .waiting) ∷ apart (v .cast .confirmed) (v .cast .failed) ∷ apart (v .cast .waiting)
+    (v .cast .failed) ∷ [] in
     let set : (i : ℕ) → getD sets i true ≡ true = conj-at sets (r .apart) in
-    let words : List Bool = ltb (v .cast .retries .low) (2 ^ 63) ∷ ltb (v .cast .retries .mid) (2 ^ 63) ∷ ltb (v .cast .retries .high) (2 ^ 63) ∷ [] in
+    let words : List Bool =
+    ltb (v .cast .retries .low) (2 ^ 63) ∷ ltb (v .cast .retries .mid) (2 ^ 63) ∷ ltb (v .cast .retries .high) (2 ^ 63) ∷ [] in
     let word : (i : ℕ) → getD words i true ≡ true = conj-at words (cast-ranges (v .cast) (r .ranges .cast) .retries) in
     let few : p ≤ 63 = omega arith in
     record {
@@ -177,11 +191,13 @@ waits-of v p r l m h =
     }
 
 -- an answer that is not refused is awaited
-pub answer-waits : (e : Event) (absent : Bool) (v : Version) (o : Outcome) → wellFormed e ≡ true → isAnswer (e .kind) ≡ true → Row v → o ≡ answerFor e absent v → isDone o ≡ true
+pub answer-waits : (e : Event) (absent : Bool) (v : Version) (o : Outcome) → wellFormed e ≡ true → isAnswer (e .kind) ≡ true → Row v
+    → o ≡ answerFor e absent v → isDone o ≡ true
     → Waits (v .cast) (answering e)
 answer-waits e absent v o h a r q d =
     let p = answering-named e h a in
-    waits-of v (answering e) r (p .0) (p .1) (not-false (awaited e v) (refusal-passed (testOf answerOrder (absent ∷ false ∷ not (awaited e v) ∷ beforeStart e v ∷ [])) answerOrder Unawaited refl refl (ap isDone (sym q) ∙ d)))
+    waits-of v (answering e) r (p .0) (p .1) (not-false (awaited e v) (refusal-passed (testOf answerOrder
+    (absent ∷ false ∷ not (awaited e v) ∷ beforeStart e v ∷ [])) answerOrder Unawaited refl refl (ap isDone (sym q) ∙ d)))
 
 -- ---- the grid has a place for the kind
 
@@ -208,14 +224,17 @@ plain-grid k h = go (leb 5 k && leb k 8) refl (eqb k 10) refl
 grid-formed : (e : Event) → wellFormed e ≡ true → isCreate (e .kind) ≡ false → isAnswer (e .kind) ≡ false → isGridKind (e .kind) ≡ true
 unfolding kindFits
 grid-formed e h c a =
-    go (isPlain (e .kind)) refl (eqb (e .kind) 1) refl (eqb (e .kind) 2) refl (eqb (e .kind) 3) refl (eqb (e .kind) 4) refl (eqb (e .kind) 9) refl
+    go (isPlain (e .kind)) refl (eqb (e .kind) 1) refl (eqb (e .kind) 2) refl (eqb (e .kind) 3) refl (eqb (e .kind) 4) refl
+    (eqb (e .kind) 9) refl
     (eqb (e .kind) 11) refl (eqb (e .kind) 12) refl
   where
     at : (n : ℕ) → eqb (e .kind) n ≡ true → isGridKind n ≡ true → isGridKind (e .kind) ≡ true
     at n q p = subst (λ (k : ℕ). isGridKind k ≡ true) (sym (eqb-true (e .kind) n q)) p
 
-    go : (x : Bool) → isPlain (e .kind) ≡ x → (k1 : Bool) → eqb (e .kind) 1 ≡ k1 → (k2 : Bool) → eqb (e .kind) 2 ≡ k2 → (k3 : Bool) → eqb (e .kind) 3 ≡ k3
-        → (k4 : Bool) → eqb (e .kind) 4 ≡ k4 → (k9 : Bool) → eqb (e .kind) 9 ≡ k9 → (r : Bool) → eqb (e .kind) 11 ≡ r → (s : Bool) → eqb (e .kind) 12 ≡ s
+    go : (x : Bool) → isPlain (e .kind) ≡ x → (k1 : Bool) → eqb (e .kind) 1 ≡ k1 → (k2 : Bool) → eqb (e .kind) 2 ≡ k2 → (k3 : Bool)
+        → eqb (e .kind) 3 ≡ k3
+        → (k4 : Bool) → eqb (e .kind) 4 ≡ k4 → (k9 : Bool) → eqb (e .kind) 9 ≡ k9 → (r : Bool) → eqb (e .kind) 11 ≡ r → (s : Bool)
+        → eqb (e .kind) 12 ≡ s
         → isGridKind (e .kind) ≡ true
     go true p _ _ _ _ _ _ _ _ _ _ _ _ _ _ =
         plain-grid (e .kind) p

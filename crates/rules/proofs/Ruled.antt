@@ -24,7 +24,8 @@ use Rattle.model.specs.Step.{manages}
 use Rattle.model.proofs.Effects.{no-members}
 use Rattle.model.proofs.Lists.{clash}
 use Rattle.model.proofs.Replies.{settled-id}
-use Rattle.model.proofs.Stays.{concurred-stays, modified-stays, cancelled-stays, acknowledged-stays, resolved-stays, window-marked-stays, window-turned-stays, opened-stays, heard-stays}
+use Rattle.model.proofs.Stays.{concurred-stays, modified-stays, cancelled-stays, acknowledged-stays, resolved-stays, window-marked-stays}
+use Rattle.model.proofs.Stays.{window-turned-stays, opened-stays, heard-stays}
 use Rattle.table.specs.Survey.{theOne, listOf, Stands}
 use Rattle.table.specs.declared.survey.Seen.{Seen}
 use Rattle.table.specs.declared.survey.Seen.the-variants.{Nobody, One}
@@ -46,7 +47,8 @@ use Rattle.model.specs.declared.Outcome.the-variants.{Done}
 
 -- ---- mail
 
-pub one-told : {ms : List Message} {cs : List Change} (r : Run) → runOf r ≡ ms → record { out = Done; sent = messagesOf (mail.One r); does = cs } ≡ accept ms cs
+pub one-told : {ms : List Message} {cs : List Change} (r : Run) → runOf r ≡ ms
+    → record { out = Done; sent = messagesOf (mail.One r); does = cs } ≡ accept ms cs
 one-told {ms} {cs} r e = ap (λ (x : List Message). accept x cs) e
 
 pub two-told : {ms ns : List Message} {cs : List Change} (a b : Run) → runOf a ≡ ms → runOf b ≡ ns
@@ -60,7 +62,8 @@ module _ (w v : Version) (r : Run) (e : v ≡ closed w) where
   unfolding closingTold closed
   close-sides p q = rw p (q ∙ ap (λ (x : Version). toSoas x 2 (w .cast .failed) noLrn (sidesTold x)) e)
 
-  pub close-side : eqb (w .cast .purpose) 1 ≡ false → runOf r ≡ toSoas v 2 (w .cast .failed) noLrn (v .new .provider ∷ []) → runOf r ≡ closingTold w
+  pub close-side : eqb (w .cast .purpose) 1 ≡ false → runOf r ≡ toSoas v 2 (w .cast .failed) noLrn (v .new .provider ∷ [])
+      → runOf r ≡ closingTold w
   unfolding closingTold closed
   close-side p q = rw p (q ∙ ap (λ (x : Version). toSoas x 2 (w .cast .failed) noLrn (x .new .provider ∷ [])) e)
 
@@ -72,10 +75,12 @@ puts-as {x} {y} {i} {k} {l} {r} e n p t free h =
     subst (λ (z : Result). Says z t free r) e (p t free (h .0, h .1 ∙ sym n))
 
 module _ (e : Event) (v w : Version) (i : ℕ) (r : Verdict) where
-  pub window-marks : marks v ≡ true → w ≡ windowMarked e v → Puts (accept (windowTold w) (put w ∷ [])) i (w .id) r → Puts (windowRuns e v) i (v .id) r
+  pub window-marks : marks v ≡ true → w ≡ windowMarked e v → Puts (accept (windowTold w) (put w ∷ [])) i (w .id) r
+      → Puts (windowRuns e v) i (v .id) r
   unfolding windowRuns
   window-marks m q =
-      rw m (puts-as (ap (λ (x : Version). accept (windowTold x) (put x ∷ [])) q) (ap (λ (x : Version). x .id) q ∙ window-marked-stays e v .name))
+      rw m (puts-as (ap (λ (x : Version). accept (windowTold x) (put x ∷ [])) q)
+      (ap (λ (x : Version). x .id) q ∙ window-marked-stays e v .name))
 
   pub window-turns : marks v ≡ false → w ≡ windowTurned e v → Puts (turns w) i (w .id) r → Puts (windowRuns e v) i (v .id) r
   unfolding windowRuns
@@ -83,11 +88,13 @@ module _ (e : Event) (v w : Version) (i : ℕ) (r : Verdict) where
 
 -- ---- a broadcast that settles
 module _ (w : Version) (lives : Seen) where
-  settles-replaced : (rest : List Version) → keep live rest ≡ listOf (theOne lives) → settles w rest ≡ map (retiring w) (listOf (theOne (replacedBy w lives)))
+  settles-replaced : (rest : List Version) → keep live rest ≡ listOf (theOne lives)
+      → settles w rest ≡ map (retiring w) (listOf (theOne (replacedBy w lives)))
   unfolding settles retires
   settles-replaced rest only = go (open? w) refl (takesOver w) refl
     where
-      go : (a : Bool) → open? w ≡ a → (b : Bool) → takesOver w ≡ b → settles w rest ≡ map (retiring w) (listOf (theOne (replacedBy w lives)))
+      go : (a : Bool) → open? w ≡ a → (b : Bool) → takesOver w ≡ b
+          → settles w rest ≡ map (retiring w) (listOf (theOne (replacedBy w lives)))
       go true p b q = rw p
       go false p true q = rw (p, q) (ap (map (retiring w)) only)
       go false p false q = rw (p, q)
@@ -105,15 +112,20 @@ module _ (w : Version) (lives : Seen) where
     own t h = (h .0, h .1 ∙ sym (ap (λ (x : Version). x .id) es ∙ settled-id w))
 
     pub settled-alone : replacedBy w lives ≡ Nobody → Settled i w lives (Put i s)
-    settled-alone e t rest free h l =
-        (ap₂ (λ (x : Version) (cs : List Change). put x ∷ cs) es (sym (settles-replaced rest (l .only) ∙ ap (λ (x : Seen). map (retiring w) (listOf (theOne x))) e)), own t h)
+    settled-alone e t rest free h l = (
+      ap₂ (λ (x : Version) (cs : List Change). put x ∷ cs) es
+          (sym (settles-replaced rest (l .only) ∙ ap (λ (x : Seen). map (retiring w) (listOf (theOne x))) e)),
+      own t h,
+    )
 
-    pub settled-over : (j : ℕ) (x old : Version) → old ≡ retired (w .stamp) x → replacedBy w lives ≡ One j x → Settled i w lives (PutTwo i s j old)
+    pub settled-over : (j : ℕ) (x old : Version) → old ≡ retired (w .stamp) x → replacedBy w lives ≡ One j x
+        → Settled i w lives (PutTwo i s j old)
     unfolding retired
     settled-over j x old eo e t rest free h l =
         let b = subst (Stands t) e (replaced-stands t (l .stands)) in (
           ap₂ (λ (y : Version) (cs : List Change). put y ∷ cs) es
-              (ap (λ (y : Version). put y ∷ []) eo ∙ sym (settles-replaced rest (l .only) ∙ ap (λ (y : Seen). map (retiring w) (listOf (theOne y))) e)),
+              (ap (λ (y : Version). put y ∷ []) eo ∙ sym (settles-replaced rest (l .only) ∙ ap
+              (λ (y : Seen). map (retiring w) (listOf (theOne y))) e)),
           (own t h, (b .0, ap (λ (y : Version). y .id) (b .1) ∙ sym (ap (λ (y : Version). y .id) eo))),
         )
 
@@ -139,14 +151,16 @@ module _ (i : ℕ) (w : Version) (lives : Seen) (rows : Rows) (s : Settled i w l
 -- ---- kinds 3 to 10 and 13 to 15, by their way
 
 -- a kind that begins a broadcast has no other
-cast-way : (bk : Books) (e : Event) (v : Version) (rest : List Version) → isBroadcast (e .kind) ≡ true → manages bk e v rest ≡ broadcasts bk e v rest
+cast-way : (bk : Books) (e : Event) (v : Version) (rest : List Version) → isBroadcast (e .kind) ≡ true
+    → manages bk e v rest ≡ broadcasts bk e v rest
 unfolding manages
 cast-way bk e v rest h = go (eqb (e .kind) 5) refl (eqb (e .kind) 9) refl (eqb (e .kind) 10) refl (eqb (e .kind) 14) refl
   where
     at : (n : ℕ) → eqb (e .kind) n ≡ true → e .kind ≡ n
     at n q = eqb-true (e .kind) n q
 
-    go : (a : Bool) → eqb (e .kind) 5 ≡ a → (b : Bool) → eqb (e .kind) 9 ≡ b → (c : Bool) → eqb (e .kind) 10 ≡ c → (d : Bool) → eqb (e .kind) 14 ≡ d
+    go : (a : Bool) → eqb (e .kind) 5 ≡ a → (b : Bool) → eqb (e .kind) 9 ≡ b → (c : Bool) → eqb (e .kind) 10 ≡ c → (d : Bool)
+        → eqb (e .kind) 14 ≡ d
         → manages bk e v rest ≡ broadcasts bk e v rest
     go true p b q c u d w = rw (at 5 p)
     go false p true q c u d w = rw (at 9 q)
@@ -156,14 +170,17 @@ cast-way bk e v rest h = go (eqb (e .kind) 5) refl (eqb (e .kind) 9) refl (eqb (
 
 module _ (s i : ℕ) (e : Event) (v w : Version) (lives : Seen) (r : Verdict) where
   -- a way that changes one row
-  by-row : (f : Version → Result) (x : Version) → ((bk : Books) (rest : List Version) → manages bk e v rest ≡ f x) → x .id ≡ v .id → w ≡ x → Puts (f w) i (w .id) r
+  by-row : (f : Version → Result) (x : Version) → ((bk : Books) (rest : List Version) → manages bk e v rest ≡ f x) → x .id ≡ v .id → w ≡ x
+      → Puts (f w) i (w .id) r
       → Manages s i e v lives r
   by-row f x way n q p bk pick t rest free h l =
       puts-as (ap f q ∙ sym (way bk rest)) (ap (λ (y : Version). y .id) q ∙ n) p t free h
 
-  pub managed-modify : isModify (e .kind) ≡ true → w ≡ modified e v → Puts (accept (restatedTold v w) (put w ∷ [])) i (w .id) r → Manages s i e v lives r
+  pub managed-modify : isModify (e .kind) ≡ true → w ≡ modified e v → Puts (accept (restatedTold v w) (put w ∷ [])) i (w .id) r
+      → Manages s i e v lives r
   unfolding manages
-  managed-modify k = by-row (λ (x : Version). accept (restatedTold v x) (put x ∷ [])) (modified e v) (λ bk rest. rw k) (modified-stays e v .name)
+  managed-modify k =
+      by-row (λ (x : Version). accept (restatedTold v x) (put x ∷ [])) (modified e v) (λ bk rest. rw k) (modified-stays e v .name)
 
   pub managed-cancel : e .kind ≡ 6 → w ≡ cancelled e v → Puts (turns w) i (w .id) r → Manages s i e v lives r
   unfolding manages
@@ -185,11 +202,13 @@ module _ (s i : ℕ) (e : Event) (v w : Version) (lives : Seen) (r : Verdict) wh
       (ap (λ (x : Version). broadcastOf x rest) (q ∙ ap (λ (m : ℕ). opened m e v) (pick k)) ∙ sym (cast-way bk e v rest k))
       (p t rest free (h .0, h .1 ∙ sym n) l)
 
-pub managed-window : (s i : ℕ) (e : Event) (v : Version) (lives : Seen) (r : Verdict) → e .kind ≡ 13 → Puts (windowRuns e v) i (v .id) r → Manages s i e v lives r
+pub managed-window : (s i : ℕ) (e : Event) (v : Version) (lives : Seen) (r : Verdict) → e .kind ≡ 13 → Puts (windowRuns e v) i (v .id) r
+    → Manages s i e v lives r
 unfolding manages
 managed-window s i e v lives r k p bk pick t rest free h l = puts-as {y = manages bk e v rest} (rw k) refl p t free h
 
-pub managed-purge : (s i : ℕ) (e : Event) (v : Version) (lives : Seen) → isBroadcast (e .kind) ≡ false → isModify (e .kind) ≡ false → (e .kind ≡ 6 → ⊥) → (e .kind ≡ 7 → ⊥)
+pub managed-purge : (s i : ℕ) (e : Event) (v : Version) (lives : Seen) → isBroadcast (e .kind) ≡ false → isModify (e .kind) ≡ false
+    → (e .kind ≡ 6 → ⊥) → (e .kind ≡ 7 → ⊥)
     → (e .kind ≡ 8 → ⊥) → (e .kind ≡ 13 → ⊥) → Manages s i e v lives (record { out = Done; rows = Strike i (v .id); mail = mail.Silence })
 unfolding manages
 managed-purge s i e v lives b m p q u w bk pick t rest free h l =
@@ -197,34 +216,40 @@ managed-purge s i e v lives b m p q u w bk pick t rest free h l =
 
 -- ---- an answer
 
-pub answered-says : (most i : ℕ) (e : Event) (v w : Version) (lives : Seen) (rows : Rows) (mail : Mail) (again′ : Bool) (p : ℕ) → again′ ≡ again most e (v .cast) → p ≡ answering e
+pub answered-says : (most i : ℕ) (e : Event) (v w : Version) (lives : Seen) (rows : Rows) (mail : Mail) (again′ : Bool) (p : ℕ)
+    → again′ ≡ again most e (v .cast) → p ≡ answering e
     → w ≡ heard most e v → Settled i w lives rows → messagesOf mail ≡ cond again′ (downloadTo v p ∷ []) [] ++ settlingTold w
     → Settles (answers most e v) i (v .id) lives (record { out = Done; rows = rows; mail = mail })
 unfolding answers askedAgain
 answered-says most i e v w lives rows mail a p ea ep ew s m t rest free h l =
     let g = s t rest free (h .0, h .1 ∙ sym (ap (λ (x : Version). x .id) ew ∙ heard-stays most e v .name)) l in
     record {
-      is = ap₂ accept (m ∙ ap₂ (λ (x y : List Message). x ++ y) (ap₂ (λ (b : Bool) (n : ℕ). cond b (downloadTo v n ∷ []) []) ea ep) (ap settlingTold ew))
+      is = ap₂ accept (m ∙ ap₂ (λ (x y : List Message). x ++ y) (ap₂ (λ (b : Bool) (n : ℕ). cond b (downloadTo v n ∷ []) []) ea ep)
+          (ap settlingTold ew))
           (g .0 ∙ ap (λ (x : Version). put (settled x) ∷ settles x rest) ew);
       sits = g .1;
     }
 
 -- ---- a create
 module _ (e : Event) (last : ℕ) (worked : Seen) (w : Version) (r : Verdict) where
-  pub created-fresh : worked ≡ Nobody → w ≡ freshNumbered e (last + 1) → Adds (accept (createdTold w) (add w ∷ [])) (w .id) r → Creates e last worked r
+  pub created-fresh : worked ≡ Nobody → w ≡ freshNumbered e (last + 1) → Adds (accept (createdTold w) (add w ∷ [])) (w .id) r
+      → Creates e last worked r
   unfolding creates freshVersion
   created-fresh q ew a t rows free n o st fr =
       let f = fr (ap theOne q) in
       let k : last + 1 ≡ suc (newest rows) = omega (arith, n) in
       subst (λ (x : Result). Says x t free r)
-      (ap (λ (x : Version). accept (createdTold x) (add x ∷ [])) (ew ∙ ap (freshNumbered e) k) ∙ ap (createOn e rows) (sym (ap theOne q) ∙ o))
+      (ap (λ (x : Version). accept (createdTold x) (add x ∷ [])) (ew ∙ ap (freshNumbered e) k) ∙ ap (createOn e rows)
+      (sym (ap theOne q) ∙ o))
       (a t free (f .0) (subst (λ (x : Version). find (x .id) t ≡ none) (sym ew) (f .1)))
 
-  pub created-joins : (i : ℕ) (v : Version) → worked ≡ One i v → w ≡ concurred e v → Puts (accept (restatedTold v w) (put w ∷ [])) i (w .id) r → Creates e last worked r
+  pub created-joins : (i : ℕ) (v : Version) → worked ≡ One i v → w ≡ concurred e v
+      → Puts (accept (restatedTold v w) (put w ∷ [])) i (w .id) r → Creates e last worked r
   unfolding creates
   created-joins i v q ew p t rows free n o st fr =
       let b = subst (Stands t) q st in
-      puts-as (ap (λ (x : Version). accept (restatedTold v x) (put x ∷ [])) ew ∙ ap (createOn e rows) (sym (ap theOne q) ∙ o)) (ap (λ (x : Version). x .id) ew ∙ concurred-stays e v .name) p t free
+      puts-as (ap (λ (x : Version). accept (restatedTold v x) (put x ∷ [])) ew ∙ ap (createOn e rows) (sym (ap theOne q) ∙ o))
+      (ap (λ (x : Version). x .id) ew ∙ concurred-stays e v .name) p t free
       (b .0, ap (λ (x : Version). x .id) (b .1))
 
 -- ---- the purpose of what is opened
@@ -238,4 +263,5 @@ unfolding opened
 opened-few s e v w q h =
     subst (λ (x : Version). x .cast .purpose ≤ 3) (sym q)
     (cond-le (eqb (e .kind) 14) (v .cast .purpose) (cond (eqb (e .kind) 5) 1 (cond (eqb (e .kind) 9) 2 3)) 3 h
-    (cond-le (eqb (e .kind) 5) 1 (cond (eqb (e .kind) 9) 2 3) 3 (omega arith) (cond-le (eqb (e .kind) 9) 2 3 3 (omega arith) (omega arith))))
+    (cond-le (eqb (e .kind) 5) 1 (cond (eqb (e .kind) 9) 2 3) 3 (omega arith)
+    (cond-le (eqb (e .kind) 9) 2 3 3 (omega arith) (omega arith))))

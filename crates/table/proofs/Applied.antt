@@ -22,7 +22,8 @@ pub applied : (t u : List ℕ) (r r′ : Rows) → r ≡ r′ → u ≡ encode (
 applied t u r r′ e p = p ∙ ap (λ (x : Rows). encode (changes (changesOf x) (decode t)) (rowsIn t)) (sym e)
 
 pub struck : (t u : List ℕ) (n : ℕ) (r : Rows) (i : ℕ) (k : Id) → r ≡ Strike i k → Applicable (decode t) n (rowsIn t) r
-    → u ≡ encode (change (strike (versionAt (decode t) i .id)) (decode t)) (rowsIn t) → u ≡ encode (changes (changesOf r) (decode t)) (rowsIn t)
+    → u ≡ encode (change (strike (versionAt (decode t) i .id)) (decode t)) (rowsIn t)
+    → u ≡ encode (changes (changesOf r) (decode t)) (rowsIn t)
 struck t u n r i k e a p =
     applied t u r (Strike i k) e
     (p ∙ ap (λ (x : Id). encode (change (strike x) (decode t)) (rowsIn t)) (asks (decode t) n (rowsIn t) r (Strike i k) e a .1))

@@ -18,13 +18,17 @@ to-soa-requires-2 : tie.Need-to-soa-requires-2
 to-soa-requires-2 c κs = search needs
 
 put-message-requires-2 : tie.Need-put-message-requires-2
-put-message-requires-2 c κs = (search needs, small-second _ _ _ (c .to-soa2 .ensures) (c .before .before .before .before .before .before .before .before .pre .1))
+put-message-requires-2 c κs =
+    (search needs, small-second _ _ _ (c .to-soa2 .ensures) (c .before .before .before .before .before .before .before .before .pre .1))
 
 same-length : tie.Need-same-length
 same-length c = search needs
 
 returns : tie.Need-returns
-returns c = told-both _ _ _ _ _ _ _ _ (c .before .before .before .before .before .before .before .before .to-soa .ensures) (c .before .before .before .to-soa2 .ensures) (c .before .before .before .before .before .before .before .put-message .ensures) (c .before .before .put-message2 .ensures)
+returns c =
+    told-both _ _ _ _ _ _ _ _ (c .before .before .before .before .before .before .before .before .to-soa .ensures)
+    (c .before .before .before .to-soa2 .ensures) (c .before .before .before .before .before .before .before .put-message .ensures)
+    (c .before .before .put-message2 .ensures)
 
 pub soas-spec : {M : Type 1} → statement M
 soas-spec =

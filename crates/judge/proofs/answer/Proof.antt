@@ -15,7 +15,14 @@ first-requires-3 : tie.Need-first-requires-3
 first-requires-3 c κs = search needs
 
 returns : tie.Need-returns
-returns c = rw (c .first3 .ensures, c .before .first2 .ensures, c .before .before .first .ensures, c .before .before .before .before .before .awaited .ensures)
+returns c =
+    rw (
+      c .first3 .ensures,
+      c .before .first2 .ensures,
+      c .before .before .first .ensures,
+      c .before .before .before .before .before
+          .awaited .ensures,
+    )
 
 pub answer-spec : {M : Type 1} → statement M
 answer-spec =

@@ -6,7 +6,8 @@ is-broadcast-requires : tie.Need-is-broadcast-requires
 is-broadcast-requires c κs = search needs
 
 returns : tie.Need-returns
-returns c = rw (← c .before .before .before .before .before .before .is-broadcast .ensures, c .before .before .before .before .before .if1 .taken)
+returns c =
+    rw (← c .before .before .before .before .before .before .is-broadcast .ensures, c .before .before .before .before .before .if1 .taken)
 
 returns-2 : tie.Need-returns-2
 returns-2 c = rw (← c .before .before .before .before .is-broadcast .ensures, c .before .before .before .if1 .left)

@@ -56,7 +56,21 @@ returns c =
     let c12 = c11 .before in
     let c13 = c12 .before in
     let c14 = c13 .before in
-    rw (c .first8 .ensures, c1 .first7 .ensures, c2 .first6 .ensures, c3 .first5 .ensures, c4 .first4 .ensures, c5 .first3 .ensures, c6 .first2 .ensures, c7 .first .ensures, c11 .nobody .ensures, c12 .unfit .ensures, c13 .old-in .ensures, c14 .current .ensures)
+    rw (
+      c .first8 .ensures,
+      c1 .first7 .ensures,
+      c2 .first6 .ensures,
+      c3 .first5 .ensures,
+      c4 .first4 .ensures,
+      c5 .first3 .ensures,
+      c6
+          .first2 .ensures,
+      c7 .first .ensures,
+      c11 .nobody .ensures,
+      c12 .unfit .ensures,
+      c13 .old-in .ensures,
+      c14 .current .ensures,
+    )
 
 pub create-spec : {M : Type 1} → statement M
 create-spec =

@@ -54,7 +54,20 @@ returns c =
     let c13 = c12 .before in
     let c14 = c13 .before in
     let c15 = c14 .before in
-    rw (c .first6 .ensures, c1 .first5 .ensures, c2 .first4 .ensures, c3 .first3 .ensures, c4 .first2 .ensures, c5 .first .ensures, c11 .idle .ensures, c12 .busy .ensures, c13 .unready .ensures, c14 .grid .ensures, c15 .standing-of .ensures .0)
+    rw (
+      c .first6 .ensures,
+      c1 .first5 .ensures,
+      c2 .first4 .ensures,
+      c3 .first3 .ensures,
+      c4 .first2 .ensures,
+      c5 .first .ensures,
+      c11
+          .idle .ensures,
+      c12 .busy .ensures,
+      c13 .unready .ensures,
+      c14 .grid .ensures,
+      c15 .standing-of .ensures .0,
+    )
 
 pub other-spec : {M : Type 1} → statement M
 other-spec =

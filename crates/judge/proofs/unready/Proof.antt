@@ -14,7 +14,8 @@ returns-2 c = rw (ne-eqb _ 5 (c .before .before .before .before .if1 .left), or-
 
 returns-3 : tie.Need-returns-3
 unfolding unready
-returns-3 c = rw (ne-eqb _ 5 (c .before .before .before .before .before .before .if1 .left), or-false _, c .before .before .before .if2 .left)
+returns-3 c =
+    rw (ne-eqb _ 5 (c .before .before .before .before .before .before .if1 .left), or-false _, c .before .before .before .if2 .left)
 
 pub unready-spec : {M : Type 1} → statement M
 unready-spec = tie.close (tie.spec returns returns-2 returns-3)

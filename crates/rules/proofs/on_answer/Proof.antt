@@ -13,7 +13,9 @@ refused-requires : tie.Need-refused-requires
 refused-requires c κs = search needs
 
 returns : tie.Need-returns
-returns c = let s = c .before .before .before .before in refused-by _ _ _ _ _ (answer-judges _ _ _ _ _ (s .pre .1 .0) _ (s .pre .1 .1) (c .before .before .before .answer .ensures)) _ (c .before .before .number .ensures) (c .before .if1 .taken) (c .refused .ensures)
+returns c = let s = c .before .before .before .before in
+    refused-by _ _ _ _ _ (answer-judges _ _ _ _ _ (s .pre .1 .0) _ (s .pre .1 .1) (c .before .before .before .answer .ensures)) _
+    (c .before .before .number .ensures) (c .before .if1 .taken) (c .refused .ensures)
 
 answered-requires : tie.Need-answered-requires
 answered-requires c κs =

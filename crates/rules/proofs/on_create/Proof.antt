@@ -13,7 +13,9 @@ refused-requires : tie.Need-refused-requires
 refused-requires c κs = search needs
 
 returns : tie.Need-returns
-returns c = let s = c .before .before .before .before in refused-by _ _ _ _ _ (create-judges _ _ _ _ (s .pre) (c .before .before .before .create .ensures)) _ (c .before .before .number .ensures) (c .before .if1 .taken) (c .refused .ensures)
+returns c = let s = c .before .before .before .before in
+    refused-by _ _ _ _ _ (create-judges _ _ _ _ (s .pre) (c .before .before .before .create .ensures)) _
+    (c .before .before .number .ensures) (c .before .if1 .taken) (c .refused .ensures)
 
 created-requires : tie.Need-created-requires
 created-requires c κs =

@@ -13,7 +13,9 @@ refused-requires : tie.Need-refused-requires
 refused-requires c κs = search needs
 
 returns : tie.Need-returns
-returns c = let s = c .before .before .before .before in refused-by _ _ _ _ _ (other-judges _ _ _ _ _ (s .pre .1 .0) _ (s .pre .1 .1) (s .pre .1 .2) (c .before .before .before .other .ensures)) _ (c .before .before .number .ensures) (c .before .if1 .taken) (c .refused .ensures)
+returns c = let s = c .before .before .before .before in
+    refused-by _ _ _ _ _ (other-judges _ _ _ _ _ (s .pre .1 .0) _ (s .pre .1 .1) (s .pre .1 .2) (c .before .before .before .other .ensures))
+    _ (c .before .before .number .ensures) (c .before .if1 .taken) (c .refused .ensures)
 
 managed-requires : tie.Need-managed-requires
 managed-requires c κs = row-purpose _ (c .before .before .before .pre .0 .1)

@@ -16,7 +16,8 @@ owner-requires : tie.Need-owner-requires
 owner-requires c κs = sound-length _ _ (c .before .before .before .before .before .pre)
 
 returns : tie.Need-returns
-returns c = λ _. c .owner .ensures (c .before .before .before .before .before .before .args .marks) ∙ ap (ownerOf _) (c .before .code-of .ensures)
+returns c =
+    λ _. c .owner .ensures (c .before .before .before .before .before .before .args .marks) ∙ ap (ownerOf _) (c .before .code-of .ensures)
 
 returns-2 : tie.Need-returns-2
 returns-2 c = λ k. clash (sym (sym (c .before .is-create .ensures) ∙ c .if1 .left) ∙ k)

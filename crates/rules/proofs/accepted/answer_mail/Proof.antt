@@ -18,7 +18,15 @@ close-requires c κs = search needs
 
 returns-2 : tie.Need-returns-2
 unfolding settlingTold
-returns-2 c = rw (c .before .before .before .before .if1 .taken, ← c .before .before .is-open .ensures, c .before .if2 .left, c .before .before .before .download .ensures, c .close .ensures)
+returns-2 c =
+    rw (
+      c .before .before .before .before .if1 .taken,
+      ← c .before .before .is-open .ensures,
+      c .before .if2 .left,
+      c .before .before
+          .before .download .ensures,
+      c .close .ensures,
+    )
 
 is-open-requires-2 : tie.Need-is-open-requires-2
 is-open-requires-2 c κs = search needs

@@ -19,7 +19,9 @@ answer-mail-requires : tie.Need-answer-mail-requires
 answer-mail-requires c κs = search needs
 
 returns : tie.Need-returns
-returns c = answered-says _ _ _ _ _ _ _ _ _ _ (c .before .before .before .again .ensures) (c .before .before .before .before .answering .ensures) (c .before .before .heard .ensures) (c .before .settled .ensures) (c .answer-mail .ensures)
+returns c =
+    answered-says _ _ _ _ _ _ _ _ _ _ (c .before .before .before .again .ensures) (c .before .before .before .before .answering .ensures)
+    (c .before .before .heard .ensures) (c .before .settled .ensures) (c .answer-mail .ensures)
 
 pub answered-spec : {M : Type 1} → statement M
 answered-spec =

@@ -17,10 +17,14 @@ close-requires : tie.Need-close-requires
 close-requires c κs = search needs
 
 returns : tie.Need-returns
-returns c = cast-asks _ _ _ _ (c .before .before .before .settled .ensures) (c .download .result) (sym (c .before .before .is-open .ensures) ∙ c .before .if1 .taken) (c .download .ensures)
+returns c =
+    cast-asks _ _ _ _ (c .before .before .before .settled .ensures) (c .download .result)
+    (sym (c .before .before .is-open .ensures) ∙ c .before .if1 .taken) (c .download .ensures)
 
 returns-2 : tie.Need-returns-2
-returns-2 c = cast-closes _ _ _ _ (c .before .before .before .settled .ensures) (c .close .result) (sym (c .before .before .is-open .ensures) ∙ c .before .if1 .left) (c .close .ensures)
+returns-2 c =
+    cast-closes _ _ _ _ (c .before .before .before .settled .ensures) (c .close .result)
+    (sym (c .before .before .is-open .ensures) ∙ c .before .if1 .left) (c .close .ensures)
 
 pub cast-spec : {M : Type 1} → statement M
 cast-spec =

@@ -12,10 +12,12 @@ takes-over-requires : tie.Need-takes-over-requires
 takes-over-requires c κs = search needs
 
 returns-2 : tie.Need-returns-2
-returns-2 c = rw (← c .before .before .before .is-open .ensures, c .before .before .if1 .left, ← c .before .takes-over .ensures, c .if2 .taken)
+returns-2 c =
+    rw (← c .before .before .before .is-open .ensures, c .before .before .if1 .left, ← c .before .takes-over .ensures, c .if2 .taken)
 
 returns-3 : tie.Need-returns-3
-returns-3 c = rw (← c .before .before .before .is-open .ensures, c .before .before .if1 .left, ← c .before .takes-over .ensures, c .if2 .left)
+returns-3 c =
+    rw (← c .before .before .before .is-open .ensures, c .before .before .if1 .left, ← c .before .takes-over .ensures, c .if2 .left)
 
 pub replaced-spec : {M : Type 1} → statement M
 replaced-spec =

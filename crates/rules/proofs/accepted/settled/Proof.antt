@@ -20,10 +20,14 @@ enum-told : tie.Need-enum-told
 enum-told c = search needs
 
 returns : tie.Need-returns
-returns c = settled-over _ _ _ _ (c .before .before .before .before .before .settled .ensures) _ _ _ (c .retired .ensures) (sym (c .before .before .before .before .replaced .ensures) ∙ c .before .before .over .given .1)
+returns c =
+    settled-over _ _ _ _ (c .before .before .before .before .before .settled .ensures) _ _ _ (c .retired .ensures)
+    (sym (c .before .before .before .before .replaced .ensures) ∙ c .before .before .over .given .1)
 
 returns-2 : tie.Need-returns-2
-returns-2 c = settled-alone _ _ _ _ (c .before .before .before .settled .ensures) (sym (c .before .before .replaced .ensures) ∙ c .enum-told .given .1)
+returns-2 c =
+    settled-alone _ _ _ _ (c .before .before .before .settled .ensures)
+    (sym (c .before .before .replaced .ensures) ∙ c .enum-told .given .1)
 
 pub settled-spec : {M : Type 1} → statement M
 settled-spec =

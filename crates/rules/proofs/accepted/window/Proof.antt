@@ -14,7 +14,9 @@ marked-requires : tie.Need-marked-requires
 marked-requires c κs = search needs
 
 returns : tie.Need-returns
-returns c = window-marks _ _ _ _ _ (sym (c .before .before .before .window-marks .ensures) ∙ c .before .before .if1 .taken) (c .before .window-marked .ensures) (c .marked .ensures)
+returns c =
+    window-marks _ _ _ _ _ (sym (c .before .before .before .window-marks .ensures) ∙ c .before .before .if1 .taken)
+    (c .before .window-marked .ensures) (c .marked .ensures)
 
 window-turned-requires : tie.Need-window-turned-requires
 window-turned-requires c κs = search needs
@@ -23,7 +25,9 @@ turned-requires : tie.Need-turned-requires
 turned-requires c κs = search needs
 
 returns-2 : tie.Need-returns-2
-returns-2 c = window-turns _ _ _ _ _ (sym (c .before .before .before .window-marks .ensures) ∙ c .before .before .if1 .left) (c .before .window-turned .ensures) (c .turned .ensures)
+returns-2 c =
+    window-turns _ _ _ _ _ (sym (c .before .before .before .window-marks .ensures) ∙ c .before .before .if1 .left)
+    (c .before .window-turned .ensures) (c .turned .ensures)
 
 pub window-spec : {M : Type 1} → statement M
 window-spec =
