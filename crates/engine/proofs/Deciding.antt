@@ -14,7 +14,7 @@ use Rattle.systems.specs.Set.{maskOf}
 use Rattle.model.specs.Numbers.{tenDigits, codeOf}
 use Rattle.model.specs.Selection.{selects, selectedFor}
 use Rattle.model.specs.Table.{Change, changes, rowsOf, find}
-use Rattle.model.specs.Record.{wellFormed, fitsBits, kindFits, named}
+use Rattle.model.specs.Record.{isCreate, wellFormed, fitsBits, kindFits, named}
 use Rattle.model.specs.Outcomes.{isDone, numberOf}
 use Rattle.model.specs.Given.{Given, Result, nameIn}
 use Rattle.model.specs.Step.{rule}
@@ -38,6 +38,7 @@ use Rattle.table.specs.declared.survey.Facts.{Facts}
 use Rattle.table.specs.declared.survey.Seen.{Seen}
 use Rattle.table.specs.declared.survey.Seen.the-variants as seen
 use Rattle.table.proofs.Asked.{others-live, fresh-absent}
+use Rattle.table.proofs.Surveys.{former-of, asked-of}
 use Rattle.tray.specs.Tray.{Small, Fits, placesIn, putAll, Told}
 use Rattle.verdict.specs.Verdict.{changesOf, messagesOf}
 use Rattle.verdict.specs.declared.Rows.{Rows}
@@ -49,6 +50,7 @@ use Rattle.outcomes.specs.Answered.{answerOf}
 use Rattle.outcomes.specs.declared.Answer.{Answer}
 use Rattle.engine.specs.Event.{Ready, Did, KnownTo, givenTo, tableAfter}
 use Rattle.engine.proofs.Posting.{rule-mail}
+use Rattle.model.specs.declared.Id.{Id}
 use Rattle.model.specs.declared.Tn.{Tn}
 use Rattle.model.specs.declared.Event.{Event}
 use Rattle.model.specs.declared.Marks.{Marks}
@@ -112,16 +114,19 @@ small-of : {ms : List Message} → All Fits ms → All Small ms
 small-of nothing = nothing
 small-of (with h hs) = with (h .small) (small-of hs)
 
+pub surveyed-for : (t r : List Version) (k : Id) (f : Facts) (c d : Bool) → c ≡ d → Surveyed t r k c f → Surveyed t r k d f
+surveyed-for t r k f c d e s = subst (λ (b : Bool). Surveyed t r k b f) e s
+
 -- ---- one event
 module _ (m : Marks) (b : List ℕ) (most : ℕ) (t : List ℕ) (n : ℕ) (e : Event) (places : ℕ) (st : SoundTable t n) (rd : Ready m b e places)
     (few : most ≤ 7) (f : Facts) (k : Known)
-    (sv : Surveyed (decode t) (rowsOf itself (e .tn .0) (decode t)) (nameIn e) f) (kn : KnownTo m b most (ltb n (rowsIn t)) e k) where
+    (sv : Surveyed (decode t) (rowsOf itself (e .tn .0) (decode t)) (nameIn e) (isCreate (e .kind)) f) (kn : KnownTo m b most (ltb n (rowsIn t)) e k) where
   abbrev Rows-of : List Version
   Rows-of = rowsOf itself (e .tn .0) (decode t)
 
   -- the version that was asked for is sound
-  pub decide-asks : ((wellFormed e ≡ true) × (k .most ≤ 7)) × Kept (f .asked)
-  decide-asks = ((rd .formed, rw (kn .most) few), go (f .asked) (sv .asked .is))
+  pub decide-asks : ((wellFormed e ≡ true) × (k .most ≤ 7)) × (isCreate (e .kind) ≡ false → Kept (f .asked))
+  decide-asks = ((rd .formed, rw (kn .most) few), λ c. go (f .asked) (asked-of _ _ _ _ f sv c .is))
     where
       go : (s : Seen) → theOne s ≡ find (nameIn e) Rows-of → Kept s
       go seen.Nobody q = tt
@@ -133,11 +138,9 @@ module _ (m : Marks) (b : List ℕ) (most : ℕ) (t : List ℕ) (n : ℕ) (e : E
     owner = kn .owner;
     selected = kn .selected;
     survey = sv;
-    lives = record {
-      only = others-live (rowsIn t) (decode t) (st .sound) (nameIn e) ∙ ap listOf (sym (sv .former .is));
-      stands = sv .former
-          .stands;
-    };
+    lives = λ c.
+        let l = former-of _ _ _ _ f sv c in
+        record { only = others-live (rowsIn t) (decode t) (st .sound) (nameIn e) ∙ ap listOf (sym (l .is)); stands = l .stands };
     fresh = λ j l. fresh-absent (record { tn = e .tn; number = j }) (decode t) l;
   }
 

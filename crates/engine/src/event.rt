@@ -75,7 +75,7 @@ pub fn on_event(
         tn,
         number: e.version,
     };
-    let f = table::survey::number(table, n, name);
+    let f = table::survey::number(table, n, name, rules::is_create(e.kind));
     let k = known(marks, books, most, n < table.len() / ROW, e);
     let v = rules::decide(e, k, f);
     let out = v.out;

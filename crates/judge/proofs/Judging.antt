@@ -19,6 +19,7 @@ use Rattle.model.proofs.Lists.{clash}
 use Rattle.model.specs.declared.Event.{Event}
 use Rattle.model.specs.declared.Version.{Version}
 use Rattle.table.specs.Survey.{Surveyed}
+use Rattle.table.proofs.Surveys.{live-of, worked-of}
 use Rattle.table.specs.declared.survey.Facts.{Facts}
 use Rattle.judge.specs.Judged.{createFor, unknownBy, answerFor, otherFor}
 
@@ -42,7 +43,7 @@ no-due e (some v) h = rw h
 
 -- ---- the three orders
 
-module _ (t : List Version) (g : Given) (f : Facts) (s : Surveyed t (g .rows) (nameIn (g .event)) f) where
+module _ (t : List Version) (g : Given) (f : Facts) (s : Surveyed t (g .rows) (nameIn (g .event)) (isCreate (g .event .kind)) f) where
   pub create-judged : isCreate (g .event .kind) ≡ true
       → createFor (g .event) (absent (g .books) (g .event)) (ownerOf (g .books) (codeOf (g .event .tn))) f (g .free) ≡ judge (refuses g)
       (orderOf (g .event .kind))
@@ -59,8 +60,8 @@ module _ (t : List Version) (g : Given) (f : Facts) (s : Surveyed t (g .rows) (n
         s .stamp,
         s
             .sending,
-        s .live .is,
-        s .worked .is,
+        live-of t (g .rows) (nameIn (g .event)) _ f s k .is,
+        worked-of t (g .rows) (nameIn (g .event)) _ f s k .is,
       )
 
   pub unknown-judged : isCreate (g .event .kind) ≡ false → found g ≡ none

@@ -12,7 +12,7 @@ use borrow.Author.Tests.{eqb-true, leb-true, leb-false, le-leb, ltb-true, not-fa
 use Rattle.systems.specs.Set.{member}
 use Rattle.model.specs.Basics.{holds, isNone}
 use Rattle.model.specs.Books.{Books}
-use Rattle.model.specs.Table.{others}
+use Rattle.model.specs.Table.{find, others}
 use Rattle.model.specs.Record.{isPlain, isCreate, isAnswer, isBroadcast, wellFormed, kindFits}
 use Rattle.model.specs.Sound.{apart, setsApart, retriesInRange}
 use Rattle.model.specs.Standing.{isGridKind}
@@ -29,7 +29,8 @@ use Rattle.model.proofs.TableLaws.{find-name}
 use Rattle.model.proofs.SoundSets.{apart-says, apart-turned}
 use Rattle.model.proofs.SoundRows.{Row, cast-ranges}
 use Rattle.answers.specs.Waits.{Waits}
-use Rattle.table.specs.Survey.{Surveyed, Stands, theOne, versionAt}
+use Rattle.table.specs.Survey.{Found, Stands, theOne}
+use Rattle.table.proofs.Surveys.{worked-of, asked-of}
 use Rattle.table.specs.declared.survey.Facts.{Facts}
 use Rattle.table.specs.declared.survey.Seen.{Seen}
 use Rattle.table.specs.declared.survey.Seen.the-variants.{Nobody, One}
@@ -90,21 +91,24 @@ module _ (e : Event) (k : Known) (f : Facts) (o : Outcome) (c : isCreate (e .kin
     pub create-says : (v : Verdict) → Creates e (f .newest) (f .worked) v → Decides e k f v
     unfolding accepted
     create-says v s =
-        accepted-says e k f o v create-judges d (λ bk r t fc. rw c (s t r (k .free) (fc .survey .newest) (fc .survey .worked .is)
-        (fc .survey .worked .stands) (λ w.
+        accepted-says e k f o v create-judges d (λ bk r t fc. rw c (s t r (k .free) (fc .survey .newest) (worked-of t r (nameIn e) _ f (fc .survey) c .is)
+        (worked-of t r (nameIn e) _ f (fc .survey) c .stands) (λ w.
         (create-free w, fc .fresh (f .newest + 1) (let h = fc .survey .newest in omega arith)))))
 
 -- ---- a version that is named
-module _ (e : Event) (k : Known) (f : Facts) (bk : Books) (r t : List Version) (fc : Facing bk r t e k f) where
+module _ (e : Event) (k : Known) (f : Facts) (c : isCreate (e .kind) ≡ false) (bk : Books) (r t : List Version) (fc : Facing bk r t e k f) where
+  asked : Found t (f .asked) (find (nameIn e) r)
+  asked = asked-of t r (nameIn e) _ f (fc .survey) c
+
   is-found : (s : Seen) → f .asked ≡ s → found (givenBy bk k e r) ≡ theOne s
-  is-found s q = sym (fc .survey .asked .is) ∙ ap theOne q
+  is-found s q = sym (asked .is) ∙ ap theOne q
 
   module _ (i : ℕ) (v : Version) (q : f .asked ≡ One i v) where
     is-named : v .id ≡ nameIn e
     is-named = find-name (nameIn e) r v (is-found (One i v) q)
 
     is-held : Holds t i (v .id)
-    is-held = let s = subst (Stands t) q (fc .survey .asked .stands) in (s .0, ap (λ (x : Version). x .id) (s .1))
+    is-held = let s = subst (Stands t) q (asked .stands) in (s .0, ap (λ (x : Version). x .id) (s .1))
 
 -- 11 and 12 are no creates
 answer-create : (k : ℕ) → isAnswer k ≡ true → isCreate k ≡ false
@@ -124,7 +128,7 @@ pub unknown-says : (e : Event) (k : Known) (f : Facts) (o : Outcome) (v : Verdic
     → Decides e k f v
 unknown-says e k f o v c q p =
     refused-says e k f o v (λ bk r t fc. p ∙ rw (fc .absent) (unknown-judged t (givenBy bk k e r) f (fc .survey) c
-    (is-found e k f bk r t fc Nobody q))) (subst (λ (x : Outcome). isDone x ≡ false) (sym p) (off (k .absent)))
+    (is-found e k f c bk r t fc Nobody q))) (subst (λ (x : Outcome). isDone x ≡ false) (sym p) (off (k .absent)))
   where
     off : (b : Bool) → isDone (unknownBy b) ≡ false
     off true = refl
@@ -136,29 +140,29 @@ module _ (e : Event) (k : Known) (f : Facts) (i : ℕ) (v : Version) (q : f .ask
     pub answer-judges : Judges e k f o
     answer-judges bk r t fc =
         p ∙ rw (fc .absent) (answer-judged t (givenBy bk k e r) f (fc .survey) v (answer-create (e .kind) a) a
-        (is-found e k f bk r t fc (One i v) q))
+        (is-found e k f (answer-create (e .kind) a) bk r t fc (One i v) q))
 
     pub answer-says : isDone o ≡ true → (w : Verdict) → Settles (answers (k .most) e v) i (v .id) (f .former) w → Decides e k f w
     unfolding accepted
     answer-says d w s =
         accepted-says e k f o w answer-judges d (λ bk r t fc.
-        rw (answer-create (e .kind) a, a, is-found e k f bk r t fc (One i v) q)
-        (s t (others (nameIn e) r) (k .free) (is-held e k f bk r t fc i v q) (fc .lives)))
+        rw (answer-create (e .kind) a, a, is-found e k f (answer-create (e .kind) a) bk r t fc (One i v) q)
+        (s t (others (nameIn e) r) (k .free) (is-held e k f (answer-create (e .kind) a) bk r t fc i v q) (fc .lives (answer-create (e .kind) a))))
 
   -- ---- all others
   module _ (c : isCreate (e .kind) ≡ false) (a : isAnswer (e .kind) ≡ false) (p : o ≡ otherFor e (k .absent) f v) where
     pub other-judges : Judges e k f o
     other-judges bk r t fc =
-        p ∙ rw (fc .absent) (other-judged t (givenBy bk k e r) f (fc .survey) v c a (is-found e k f bk r t fc (One i v) q))
+        p ∙ rw (fc .absent) (other-judged t (givenBy bk k e r) f (fc .survey) v c a (is-found e k f c bk r t fc (One i v) q))
 
     pub other-says : isDone o ≡ true → (w : Verdict) → Manages (k .selected) i e v (f .former) w → Decides e k f w
     unfolding accepted
     other-says d w s =
         accepted-says e k f o w other-judges d (λ bk r t fc.
-        rw (c, a, is-found e k f bk r t fc (One i v) q)
-        (s bk (λ b. fc .selected b ∙ ap (λ (x : Id). selectedFor bk (x .tn)) (sym (is-named e k f bk r t fc i v q))) t (others (nameIn e) r)
+        rw (c, a, is-found e k f c bk r t fc (One i v) q)
+        (s bk (λ b. fc .selected b ∙ ap (λ (x : Id). selectedFor bk (x .tn)) (sym (is-named e k f c bk r t fc i v q))) t (others (nameIn e) r)
         (k .free)
-        (is-held e k f bk r t fc i v q) (fc .lives)))
+        (is-held e k f c bk r t fc i v q) (fc .lives c)))
 
 -- ---- what the functions ask of a sound version
 

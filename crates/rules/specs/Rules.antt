@@ -2,7 +2,7 @@
 -- Assumes nothing.
 use mathlib.Core.Path.{_≡_}
 use Prim.Native.Nat.{ℕ, _+_, _<_}
-use mathlib.Core.Bool.{Bool, true, cond}
+use mathlib.Core.Bool.{Bool, true, false, cond}
 use mathlib.Core.Option.{none}
 use mathlib.Core.List.{List, _∷_}
 use lib.ListN.{length}
@@ -108,8 +108,8 @@ pub record Facing (bk : Books) (r t : List Version) (e : Event) (k : Known) (f :
   pub absent : k .absent ≡ absent bk e
   pub owner : isCreate (e .kind) ≡ true → k .owner ≡ ownerOf bk (codeOf (e .tn))
   pub selected : isBroadcast (e .kind) ≡ true → k .selected ≡ selectedFor bk (e .tn)
-  pub survey : Surveyed t r (nameIn e) f
-  pub lives : Lives t (f .former) (others (nameIn e) r)
+  pub survey : Surveyed t r (nameIn e) (isCreate (e .kind)) f
+  pub lives : isCreate (e .kind) ≡ false → Lives t (f .former) (others (nameIn e) r)
   pub fresh : (n : ℕ) → newest r < n → find (record { tn = e .tn; number = n }) t ≡ none
 
 -- the verdict says the model's rule, whatever books and rows the values are of

@@ -94,7 +94,7 @@ fn is_answer(kind: u8) -> bool
 // A well-formed event, over the facts of its number.
 pub fn decide(e: Event, k: Known, f: Facts) -> Verdict
     requires { ⌜ (wellFormed e ≡ true) × (k .most ≤ 7) ⌝ }
-    requires { ⌜ Kept (f .asked) ⌝ }
+    requires { ⌜ (isCreate (e .kind) ≡ false → Kept (f .asked)) ⌝ }
     ensures { λ r. ⌜ Decides e k f r ⌝ }
 {
     if is_create(e.kind) {

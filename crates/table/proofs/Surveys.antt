@@ -1,7 +1,7 @@
 -- The laws of `specs/Survey.antt`: no version, one version more before the others, and the places of a number. Assumes nothing.
 use mathlib.Core.Path.{_≡_, refl, sym, ap, _∙_, subst}
 use mathlib.Core.Bool.{Bool, true, false, cond, not, _&&_, _||_}
-use mathlib.Core.Option.{Option, some}
+use mathlib.Core.Option.{Option, none, some}
 use mathlib.Core.List.{List, [], _∷_}
 use Prim.Native.Nat.{ℕ, zero, suc, _+_, _-_, _*_, _≤_, _<_, max}
 use native.Mathlib.Omega.{arith}
@@ -9,7 +9,7 @@ use lib.ListN.{length, take, drop}
 use lib.Seq.{slice, slice-cons, slice-empty}
 use Rattle.model.specs.declared.Id.{Id}
 use Rattle.model.specs.declared.Version.{Version}
-use Rattle.model.specs.Basics.{any, keep, first}
+use Rattle.model.specs.Basics.{any, first, largest}
 use Rattle.model.specs.Table.{find, others}
 use Rattle.model.specs.Sound.{live, sends, worked}
 use Rattle.model.proofs.TableLaws.{Under, Rising}
@@ -17,9 +17,92 @@ use Rattle.table.specs.declared.survey.Seen.{Seen}
 use Rattle.table.specs.declared.survey.Seen.the-variants.{Nobody, One}
 use Rattle.table.specs.declared.survey.Facts.{Facts}
 use Rattle.table.specs.Find.{placeIn}
-use Rattle.table.specs.Survey.{named, versionAt, Found, Surveyed}
+use Rattle.table.specs.declared.survey.Spot.{Spot}
+use Rattle.table.specs.declared.survey.Spot.the-variants.{Nowhere, At}
+use Rattle.table.specs.Survey.{named, versionAt, Found, Within, seenAt, Surveyed}
 use Rattle.table.proofs.Sought.{place-le}
 use Rattle.table.proofs.Numbered.{place-up, not-named, find-first}
+
+-- ---- all sums, whatever the kind asks
+
+pub record Summed (t r : List Version) (k : Id) (f : Facts) : Type 0 where
+  pub newest : f .newest ≡ largest (λ (v : Version). v .id .number) r
+  pub stamp : f .stamp ≡ largest (λ (v : Version). v .stamp) r
+  pub sending : f .sends ≡ any sends r
+  pub blocked : f .blocked ≡ any sends (others k r)
+  pub former : Found t (f .former) (first live (others k r))
+  pub live : Found t (f .live) (first live r)
+  pub worked : Found t (f .worked) (first worked r)
+  pub asked : Found t (f .asked) (find k r)
+
+nobody : {t : List Version} → Found t Nobody none
+nobody = record { is = refl; stands = tt }
+
+-- the versions that a create asks for, and those that any other kind does
+module _ (t r : List Version) (k : Id) (f : Facts) (s : Summed t r k f) where
+  abbrev with-seen : Seen → Seen → Seen → Seen → Facts
+  with-seen former live worked asked = record {
+    newest = f .newest;
+    stamp = f .stamp;
+    sends = f .sends;
+    blocked = f .blocked;
+    former = former;
+    live = live;
+    worked = worked;
+    asked = asked;
+  }
+
+  pub of-create : (c : Bool) → c ≡ true → (l w : Seen) → l ≡ f .live → w ≡ f .worked → Surveyed t r k c (with-seen Nobody l w Nobody)
+  of-create c e l w p q = subst (λ (b : Bool). Surveyed t r k b (with-seen Nobody l w Nobody)) (sym e) (record {
+    newest = s .newest;
+    stamp = s .stamp;
+    sending = s .sending;
+    blocked = s .blocked;
+    former = nobody;
+    live = subst (λ (x : Seen). Found t x (first live r)) (sym p) (s .live);
+    worked = subst (λ (x : Seen). Found t x (first worked r)) (sym q) (s .worked);
+    asked = nobody;
+  })
+
+  pub of-other : (c : Bool) → c ≡ false → (l a : Seen) → l ≡ f .former → a ≡ f .asked → Surveyed t r k c (with-seen l Nobody Nobody a)
+  of-other c e l a p q = subst (λ (b : Bool). Surveyed t r k b (with-seen l Nobody Nobody a)) (sym e) (record {
+    newest = s .newest;
+    stamp = s .stamp;
+    sending = s .sending;
+    blocked = s .blocked;
+    former = subst (λ (x : Seen). Found t x (first live (others k r))) (sym p) (s .former);
+    live = nobody;
+    worked = nobody;
+    asked = subst (λ (x : Seen). Found t x (find k r)) (sym q) (s .asked);
+  })
+
+-- and what of a survey they may count on
+module _ (t r : List Version) (k : Id) (c : Bool) (f : Facts) (s : Surveyed t r k c f) where
+  pub live-of : c ≡ true → Found t (f .live) (first live r)
+  live-of e = subst (λ (b : Bool). Found t (f .live) (cond b (first live r) none)) e (s .live)
+
+  pub worked-of : c ≡ true → Found t (f .worked) (first worked r)
+  worked-of e = subst (λ (b : Bool). Found t (f .worked) (cond b (first worked r) none)) e (s .worked)
+
+  pub former-of : c ≡ false → Found t (f .former) (first live (others k r))
+  former-of e = subst (λ (b : Bool). Found t (f .former) (cond b none (first live (others k r)))) e (s .former)
+
+  pub asked-of : c ≡ false → Found t (f .asked) (find k r)
+  asked-of e = subst (λ (b : Bool). Found t (f .asked) (cond b none (find k r))) e (s .asked)
+
+-- a place that was found is one of the list's
+pub found-within : (t : List Version) (n : ℕ) (p : Spot) (o : Option Version) → length t ≡ n → Found t (seenAt t p) o → Within p n
+found-within t n Nowhere o e f = tt
+found-within t n (At i) o e f = let l : i < length t = f .stands .0 in omega arith
+
+-- what a place that was taken shows
+pub spot-seen : (t : List Version) (b : Bool) (i : ℕ) (v : Version) (p q : Spot) → q ≡ cond b (At i) p → v ≡ versionAt t i
+    → seenAt t q ≡ cond b (One i v) (seenAt t p)
+spot-seen t b i v p q e h = ap (seenAt t) e ∙ go b
+  where
+    go : (b : Bool) → seenAt t (cond b (At i) p) ≡ cond b (One i v) (seenAt t p)
+    go true = ap (One i) (sym h)
+    go false = refl
 
 -- ---- no version
 
@@ -35,7 +118,7 @@ noFacts = record {
   former = Nobody;
 }
 
-pub none-surveyed : (t : List Version) (k : Id) → Surveyed t [] k noFacts
+pub none-surveyed : (t : List Version) (k : Id) → Summed t [] k noFacts
 none-surveyed t k = record {
   newest = refl;
   stamp = refl;
@@ -84,7 +167,7 @@ find-more : (k : Id) (v : Version) (r : List Version) → Rising (v ∷ r) → c
 find-more k v r s = ap (λ (o : Option Version). cond (named k v) (some v) o) (find-first k r (s .1)) ∙ sym (find-first k (v ∷ r) s)
 
 one-more : (t r : List Version) (k : Id) (f : Facts) (i : ℕ) → i < length t → Rising (versionAt t i ∷ r)
-    → Surveyed t r k f → Surveyed t (versionAt t i ∷ r) k (factsWith k i (versionAt t i) f)
+    → Summed t r k f → Summed t (versionAt t i ∷ r) k (factsWith k i (versionAt t i) f)
 one-more t r k f i h s g =
     let v : Version = versionAt t i in
     let o : List Version = others k r in
@@ -122,25 +205,25 @@ rising-drop (suc n) [] r = tt
 rising-drop (suc n) (x ∷ xs) r = rising-drop n xs (r .1)
 
 module _ (t : List Version) (k : Id) (to : ℕ) where
-  pub survey-starts : Surveyed t (slice to to t) k noFacts
-  survey-starts = subst (λ (r : List Version). Surveyed t r k noFacts) (sym (slice-empty to t)) (none-surveyed t k)
+  pub survey-starts : Summed t (slice to to t) k noFacts
+  survey-starts = subst (λ (r : List Version). Summed t r k noFacts) (sym (slice-empty to t)) (none-surveyed t k)
 
-  turn : (i : ℕ) (f : Facts) → i < to → to ≤ length t → Rising t → Surveyed t (slice (suc i) to t) k f
-      → Surveyed t (slice i to t) k (factsWith k i (versionAt t i) f)
+  turn : (i : ℕ) (f : Facts) → i < to → to ≤ length t → Rising t → Summed t (slice (suc i) to t) k f
+      → Summed t (slice i to t) k (factsWith k i (versionAt t i) f)
   turn i f h l s g =
       let c : slice i to t ≡ versionAt t i ∷ slice (suc i) to t = slice-cons i to t _ h l in
-      subst (λ (r : List Version). Surveyed t r k (factsWith k i (versionAt t i) f)) (sym c)
+      subst (λ (r : List Version). Summed t r k (factsWith k i (versionAt t i) f)) (sym c)
       (one-more t (slice (suc i) to t) k f i (omega arith) (subst Rising c (rising-drop i (take to t) (rising-take to t s))) g)
 
   -- the version v at place i was read, and f became g
   pub survey-turns : (i j : ℕ) (v : Version) (f g : Facts) → j ≡ suc i → i < to → to ≤ length t → Rising t → v ≡ versionAt t i
-      → g ≡ factsWith k i v f → Surveyed t (slice j to t) k f → Surveyed t (slice i to t) k g
+      → g ≡ factsWith k i v f → Summed t (slice j to t) k f → Summed t (slice i to t) k g
   survey-turns i j v f g b h l s e w q =
-      subst (Surveyed t (slice i to t) k) (sym (w ∙ ap (λ (x : Version). factsWith k i x f) e))
-      (turn i f h l s (subst (λ (n : ℕ). Surveyed t (slice n to t) k f) b q))
+      subst (Summed t (slice i to t) k) (sym (w ∙ ap (λ (x : Version). factsWith k i x f) e))
+      (turn i f h l s (subst (λ (n : ℕ). Summed t (slice n to t) k f) b q))
 
-  pub survey-ends : (i from : ℕ) (f : Facts) → i ≡ from → Surveyed t (slice i to t) k f → Surveyed t (slice from to t) k f
-  survey-ends i from f e g = subst (λ (j : ℕ). Surveyed t (slice j to t) k f) e g
+  pub survey-ends : (i from : ℕ) (f : Facts) → i ≡ from → Summed t (slice i to t) k f → Summed t (slice from to t) k f
+  survey-ends i from f e g = subst (λ (j : ℕ). Summed t (slice j to t) k f) e g
 
 -- ---- the two places of a number
 

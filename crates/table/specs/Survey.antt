@@ -2,7 +2,7 @@
 -- Assumes nothing.
 use Prim.Native.Nat.{ℕ, _<_}
 use mathlib.Core.Path.{_≡_}
-use mathlib.Core.Bool.{Bool, _&&_}
+use mathlib.Core.Bool.{Bool, cond, _&&_}
 use mathlib.Core.Option.{Option, none, some}
 use mathlib.Core.List.{List, [], _∷_}
 use lib.Dec.{eqb}
@@ -13,6 +13,8 @@ use Rattle.model.specs.Basics.{any, first, largest}
 use Rattle.model.specs.Table.{find, others}
 use Rattle.model.specs.Sound.{live, sends, worked}
 use Rattle.row.specs.Layout.{unpack}
+use Rattle.table.specs.declared.survey.Spot.{Spot}
+use Rattle.table.specs.declared.survey.Spot.the-variants.{Nowhere, At}
 use Rattle.table.specs.declared.survey.Seen.{Seen}
 use Rattle.table.specs.declared.survey.Seen.the-variants.{Nobody, One}
 use Rattle.table.specs.declared.survey.Facts.{Facts}
@@ -47,15 +49,25 @@ pub record Found (t : List Version) (s : Seen) (o : Option Version) : Type 0 whe
   pub is : theOne s ≡ o
   pub stands : Stands t s
 
+-- ---- a place, before its version is read
+
+abbrev pub Within : Spot → ℕ → Type 0
+Within Nowhere n = Unit {0}
+Within (At i) n = i < n
+
+abbrev pub seenAt : List Version → Spot → Seen
+seenAt t Nowhere = Nobody
+seenAt t (At i) = One i (versionAt t i)
+
 -- ---- what the rules ask
 
--- the facts of the versions r, which stand in the table t, with the one of the name k and the others
-pub record Surveyed (t r : List Version) (k : Id) (f : Facts) : Type 0 where
+-- the facts of the versions r, which stand in the table t, as a create asks for them or any other event that names k
+pub record Surveyed (t r : List Version) (k : Id) (create : Bool) (f : Facts) : Type 0 where
   pub newest : f .newest ≡ largest (λ (v : Version). v .id .number) r
   pub stamp : f .stamp ≡ largest (λ (v : Version). v .stamp) r
   pub sending : f .sends ≡ any sends r
   pub blocked : f .blocked ≡ any sends (others k r)
-  pub former : Found t (f .former) (first live (others k r))
-  pub live : Found t (f .live) (first live r)
-  pub worked : Found t (f .worked) (first worked r)
-  pub asked : Found t (f .asked) (find k r)
+  pub former : Found t (f .former) (cond create none (first live (others k r)))
+  pub live : Found t (f .live) (cond create (first live r) none)
+  pub worked : Found t (f .worked) (cond create (first worked r) none)
+  pub asked : Found t (f .asked) (cond create none (find k r))

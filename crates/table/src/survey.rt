@@ -10,8 +10,8 @@ ghost use lib.Seq.{slice};
 ghost use Rattle.model.specs.Table.{rowsOf};
 ghost use Rattle.rows.specs.Table.{decode};
 ghost use Rattle.scan.specs.Sound.{SoundTable, itself};
-ghost use Rattle.table.specs.declared.survey.Seen.the-variants.{One};
-ghost use Rattle.table.specs.Survey.{Surveyed};
+ghost use Rattle.table.specs.declared.survey.Spot.the-variants.{At};
+ghost use Rattle.table.specs.Survey.{Within, seenAt, Surveyed};
 
 // A version, with its place.
 pub enum Seen {
@@ -19,9 +19,15 @@ pub enum Seen {
     One(usize, Version),
 }
 
-// Of the versions of a number: the newest number, the largest stamp, whether one is sending; of those but the one that is asked for, whether
-// one is sending, which blocks a broadcast, and the live one, which the asked one makes a former; the live one of all, the worked one, and
-// the one that is asked for.
+// A place, before its version is read.
+pub enum Spot {
+    Nowhere,
+    At(usize),
+}
+
+// Of the versions of a number: the newest number, the largest stamp, whether one is sending. For a create the live one and the worked one. For
+// any other kind the one that is asked for, and of those but this one whether one is sending, which blocks a broadcast, and the live one, which
+// the asked one makes a former.
 pub struct Facts {
     pub newest: u16,
     pub stamp: u32,
@@ -45,27 +51,38 @@ fn larger32(a: u32, b: u32) -> u32
     if a < b { b } else { a }
 }
 
-// The version at place i where it passes, else the one that was seen.
-fn first(passes: bool, i: usize, v: Version, s: Seen) -> Seen
-    ensures { λ r. ⌜ r ≡ cond passes (One i v) s ⌝ }
+// Place i where its version passes, else the one before.
+fn first(passes: bool, i: usize, s: Spot) -> Spot
+    ensures { λ r. ⌜ r ≡ cond passes (At i) s ⌝ }
 {
-    if passes { Seen::One(i, v) } else { s }
+    if passes { Spot::At(i) } else { s }
 }
 
-// The versions from `from` up to, not including, `to`.
-fn over(t: &[u8], n: usize, k: Id, from: usize, to: usize) -> Facts
+fn look(t: &[u8], n: usize, s: Spot) -> Seen
+    requires { ⌜ SoundTable (now t) n ⌝ }
+    requires { ⌜ Within s n ⌝ }
+    ensures { λ r. ⌜ r ≡ seenAt (decode (now (t .entry))) s ⌝ }
+{
+    match s {
+        Spot::At(i) => Seen::One(i, rows::load(t, i)),
+        Spot::Nowhere => Seen::Nobody,
+    }
+}
+
+// The versions from `from` up to, not including, `to`: of each what the sums ask, and whole those that the kind asks for.
+fn over(t: &[u8], n: usize, k: Id, create: bool, from: usize, to: usize) -> Facts
     requires { ⌜ SoundTable (now t) n ⌝ }
     requires { ⌜ (from ≤ to) × (to ≤ n) ⌝ }
-    ensures { λ r. ⌜ Surveyed (decode (now (t .entry))) (slice from to (decode (now (t .entry)))) k r ⌝ }
+    ensures { λ r. ⌜ Surveyed (decode (now (t .entry))) (slice from to (decode (now (t .entry)))) k create r ⌝ }
 {
     let mut newest: u16 = 0;
     let mut stamp: u32 = 0;
     let mut sends = false;
     let mut blocked = false;
-    let mut former = Seen::Nobody;
-    let mut live = Seen::Nobody;
-    let mut worked = Seen::Nobody;
-    let mut asked = Seen::Nobody;
+    let mut former = Spot::Nowhere;
+    let mut live = Spot::Nowhere;
+    let mut worked = Spot::Nowhere;
+    let mut asked = Spot::Nowhere;
     let mut i = to;
     while from < i {
         i -= 1;
@@ -76,30 +93,42 @@ fn over(t: &[u8], n: usize, k: Id, from: usize, to: usize) -> Facts
         stamp = larger32(v.stamp, stamp);
         sends = (v.status == 3) | sends;
         blocked = (other & (v.status == 3)) | blocked;
-        former = first(other & v.live, i, v, former);
-        live = first(v.live, i, v, live);
-        worked = first(join::is_worked(v.status), i, v, worked);
-        asked = first(own, i, v, asked);
+        former = first(other & v.live, i, former);
+        live = first(v.live, i, live);
+        worked = first(join::is_worked(v.status), i, worked);
+        asked = first(own, i, asked);
+    }
+    if create {
+        return Facts {
+            newest,
+            stamp,
+            sends,
+            blocked,
+            former: Seen::Nobody,
+            live: look(t, n, live),
+            worked: look(t, n, worked),
+            asked: Seen::Nobody,
+        };
     }
     Facts {
         newest,
         stamp,
         sends,
         blocked,
-        former,
-        live,
-        worked,
-        asked,
+        former: look(t, n, former),
+        live: Seen::Nobody,
+        worked: Seen::Nobody,
+        asked: look(t, n, asked),
     }
 }
 
-// What the versions of k's number have together, with the version of that name and the others.
-pub fn number(t: &[u8], n: usize, k: Id) -> Facts
+// What the versions of k's number have together, with the version of that name and the others, as a create or any other kind asks.
+pub fn number(t: &[u8], n: usize, k: Id, create: bool) -> Facts
     requires { ⌜ SoundTable (now t) n ⌝ }
     requires { ⌜ k .tn .0 < 17179869184 ⌝ }
-    ensures { λ r. ⌜ Surveyed (decode (now (t .entry))) (rowsOf itself (k .tn .0) (decode (now (t .entry)))) k r ⌝ }
+    ensures { λ r. ⌜ Surveyed (decode (now (t .entry))) (rowsOf itself (k .tn .0) (decode (now (t .entry)))) k create r ⌝ }
 {
     let tn = k.tn;
     let at = find::versions(t, n, tn);
-    over(t, n, k, at.from, at.to)
+    over(t, n, k, create, at.from, at.to)
 }

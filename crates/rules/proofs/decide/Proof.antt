@@ -21,24 +21,25 @@ is-answer-requires : tie.Need-is-answer-requires
 is-answer-requires c κs = search needs
 
 on-answer-requires : tie.Need-on-answer-requires
-on-answer-requires c κs = let s = c .before .before .before .before .before .before .before in
-    let q = c .before .before .before .asked .given .1 in
-    ((s .pre .0 .0, s .pre .0 .1, subst Kept q (s .pre .1)), (q, sym (c .before .is-answer .ensures) ∙ c .if2 .taken))
+on-answer-requires c κs =
+    let a = c .before .before .before in
+    let d = a .before .before in
+    let s = d .before .before in
+    let no = sym (d .before .is-create .ensures) ∙ d .if1 .left in
+    let q = a .asked .given .1 in
+    ((s .pre .0 .0, s .pre .0 .1, subst Kept q (s .pre .1 no)), (q, sym (c .before .is-answer .ensures) ∙ c .if2 .taken))
 
 returns-2 : tie.Need-returns-2
 returns-2 c = search needs
 
 on-other-requires : tie.Need-on-other-requires
-on-other-requires c κs = let s = c .before .before .before .before .before .before .before in
-    let q = c .before .before .before .asked .given .1 in (
-      (s .pre .0 .0, subst Kept q (s .pre .1)),
-      (
-        q,
-        sym (c .before .before .before .before .before .before .is-create .ensures) ∙ c .before
-            .before .before .before .before .if1 .left,
-        sym (c .before .is-answer .ensures) ∙ c .if2 .left,
-      ),
-    )
+on-other-requires c κs =
+    let a = c .before .before .before in
+    let d = a .before .before in
+    let s = d .before .before in
+    let no = sym (d .before .is-create .ensures) ∙ d .if1 .left in
+    let q = a .asked .given .1 in
+    ((s .pre .0 .0, subst Kept q (s .pre .1 no)), (q, no, sym (c .before .is-answer .ensures) ∙ c .if2 .left))
 
 enum-told : tie.Need-enum-told
 enum-told c = search needs
@@ -54,8 +55,9 @@ returns-3 c = search needs
 
 returns-4 : tie.Need-returns-4
 returns-4 c =
-    unknown-says _ _ _ _ _ (sym (c .before .before .before .before .before .is-create .ensures) ∙ c .before .before .before .before .if1
-    .left) (c .before .before .enum-told .given .1) (c .before .unknown .ensures) (c .refused .ensures)
+    let d = c .before .before .before .before in
+    unknown-says _ _ _ _ _ (sym (d .before .is-create .ensures) ∙ d .if1 .left) (c .before .before .enum-told .given .1) (c .before .unknown .ensures)
+    (c .refused .ensures)
 
 pub decide-spec : {M : Type 1} → statement M
 decide-spec =

@@ -35,7 +35,7 @@ returns c =
     let tn = st .args .k .tn .0 in
     let g = sound-good (st .args .t .now) (st .args .n) (st .pre .0) in
     let e = c .before .versions .ensures in
-    subst (λ (r : List Version). Surveyed vs r (st .args .k) (c .over .result))
+    subst (λ (r : List Version). Surveyed vs r (st .args .k) (st .args .create) (c .over .result))
     (ap₂ (λ (x y : ℕ). slice x y vs) (e .0) (e .1) ∙ rows-between tn 0 vs (g .sound) (g .rises)) (c .over .ensures)
 
 pub number-spec : {M : Type 1} → statement M

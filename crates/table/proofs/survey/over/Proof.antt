@@ -12,20 +12,29 @@ use Rattle.rows.specs.Table.{decode}
 use Rattle.table.specs.declared.survey.Seen.{Seen}
 use Rattle.table.specs.declared.survey.Seen.the-variants.{One}
 use Rattle.table.specs.declared.survey.Facts.{Facts}
-use Rattle.table.specs.Survey.{named, Surveyed}
+use Rattle.table.specs.Survey.{named, seenAt}
 use Rattle.table.proofs.Numbered.{rises-type}
 use Rattle.table.proofs.Sought.{sound-good, sound-load}
-use Rattle.table.proofs.Surveys.{factsWith, survey-starts, survey-turns, survey-ends}
+use Rattle.table.proofs.Surveys.{Summed, factsWith, survey-starts, survey-turns, survey-ends, spot-seen, of-create, of-other, found-within}
 use Rattle.table.proofs.survey.over.Statement.{statement}
 use Rattle.table.proofs.survey.over.Tie as tie
 
 abbrev Inv-loop : tie.InvT-loop
-Inv-loop t n k from to newest₀ stamp₀ sends₀ blocked₀ former₀ live₀ worked₀ asked₀ i₀ newest stamp sends blocked former live worked asked i =
-    (from ≤ i) × ((i ≤ to) × Surveyed (decode t) (slice i to (decode t)) k
-    (record { newest = newest; stamp = stamp; sends = sends; blocked = blocked; former = former; live = live; worked = worked; asked = asked }))
+Inv-loop t n k create from to newest₀ stamp₀ sends₀ blocked₀ former₀ live₀ worked₀ asked₀ i₀ newest stamp sends blocked former live worked asked i =
+    (from ≤ i) × ((i ≤ to) × Summed (decode t) (slice i to (decode t)) k
+    (record {
+      newest = newest;
+      stamp = stamp;
+      sends = sends;
+      blocked = blocked;
+      former = seenAt (decode t) former;
+      live = seenAt (decode t) live;
+      worked = seenAt (decode t) worked;
+      asked = seenAt (decode t) asked;
+    }))
 
 abbrev μ-loop : tie.MeasureT-loop
-μ-loop t n k from to newest₀ stamp₀ sends₀ blocked₀ former₀ live₀ worked₀ asked₀ i₀ newest stamp sends blocked former live worked asked i = i - from
+μ-loop t n k create from to newest₀ stamp₀ sends₀ blocked₀ former₀ live₀ worked₀ asked₀ i₀ newest stamp sends blocked former live worked asked i = i - from
 
 loop-holds : tie.Need-loop-holds Inv-loop μ-loop
 loop-holds c =
@@ -76,7 +85,8 @@ loop-again c =
     let vs = decode (a .t .now) in
     let i = at .loop .i - 1 in
     let v = ld .load .result in
-    let h : i < a .n = omega (arith, ld .before .loop-test .taken, at .loop .inv .1 .0, st .pre .1) in (
+    let h : i < a .n = omega (arith, ld .before .loop-test .taken, at .loop .inv .1 .0, st .pre .1) in
+    let e = ld .load .ensures ∙ sound-load (a .t .now) (a .n) (st .pre .0) i (unpack []) h in (
       omega (arith, ld .before .loop-test .taken),
       (
         omega (arith, at .loop .inv .1 .0),
@@ -85,27 +95,60 @@ loop-again c =
             (omega (arith, ld .before .loop-test .taken, at .loop .inv .1 .0))
             (omega (arith, st .pre .1, st .pre .0 .count))
             (rises-type vs 0 (sound-good (a .t .now) (a .n) (st .pre .0) .sound) (sound-good (a .t .now) (a .n) (st .pre .0) .rises))
-            (ld .load .ensures ∙ sound-load (a .t .now) (a .n) (st .pre .0) i (unpack []) h)
+            e
             (λ x. record {
               newest = w .larger16 .ensures x;
               stamp = c .before .before .before .before .before .before .before .before .larger32 .ensures x;
               sends = sends v || at .loop .sends;
               blocked = (not (named (a .k) v) && sends v) || at .loop .blocked;
-              former = c .before .before .before .before .first .ensures x;
-              live = c .before .before .before .first2 .ensures x;
+              former = spot-seen vs (not (named (a .k) v) && v .live) i v (at .loop .former) _ (c .before .before .before .before .first .ensures) e x;
+              live = spot-seen vs (v .live) i v (at .loop .live) _ (c .before .before .before .first2 .ensures) e x;
               worked =
-                  (c .before .first3 .ensures
-                  ∙ ap (λ (b : Bool). cond b (One i v) (at .loop .worked)) (c .before .before .is-worked .ensures)) x;
-              asked = c .first4 .ensures x;
+                  (spot-seen vs (c .before .before .is-worked .result) i v (at .loop .worked) _ (c .before .first3 .ensures) e
+                  ∙ ap (λ (b : Bool). cond b (One i v) (seenAt vs (at .loop .worked))) (c .before .before .is-worked .ensures)) x;
+              asked = spot-seen vs (named (a .k) v) i v (at .loop .asked) _ (c .first4 .ensures) e x;
             })
             (at .loop .inv .1 .1),
       ),
     )
 
+look-requires : tie.Need-look-requires Inv-loop μ-loop
+look-requires c κs =
+    let l = c .before .before in
+    let st = l .before .before in
+    (st .pre .0, found-within _ _ (l .loop .live) _ (st .pre .0 .count) (l .loop .inv .1 .1 .live))
+
+look-requires-2 : tie.Need-look-requires-2 Inv-loop μ-loop
+look-requires-2 c κs =
+    let l = c .before .before .before in
+    let st = l .before .before in
+    (st .pre .0, found-within _ _ (l .loop .worked) _ (st .pre .0 .count) (l .loop .inv .1 .1 .worked))
+
 returns : tie.Need-returns Inv-loop μ-loop
 returns c =
-    let a = c .before .before .before .args in
-    survey-ends (decode (a .t .now)) (a .k) (a .to) (c .before .loop .i) (a .from) _ (omega (arith, c .loop-test .left)) (c .before .loop .inv .1 .1)
+    let l = c .before .before .before .before in
+    let a = l .before .before .args in
+    of-create _ _ _ _ (survey-ends (decode (a .t .now)) (a .k) (a .to) (l .loop .i) (a .from) _ (omega (arith, c .before .before .before .loop-test .left)) (l .loop .inv .1 .1))
+    _ (c .before .before .if1 .taken) _ _ (c .before .look .ensures) (c .look2 .ensures)
+
+look-requires-3 : tie.Need-look-requires-3 Inv-loop μ-loop
+look-requires-3 c κs =
+    let l = c .before .before in
+    let st = l .before .before in
+    (st .pre .0, found-within _ _ (l .loop .former) _ (st .pre .0 .count) (l .loop .inv .1 .1 .former))
+
+look-requires-4 : tie.Need-look-requires-4 Inv-loop μ-loop
+look-requires-4 c κs =
+    let l = c .before .before .before in
+    let st = l .before .before in
+    (st .pre .0, found-within _ _ (l .loop .asked) _ (st .pre .0 .count) (l .loop .inv .1 .1 .asked))
+
+returns-2 : tie.Need-returns-2 Inv-loop μ-loop
+returns-2 c =
+    let l = c .before .before .before .before in
+    let a = l .before .before .args in
+    of-other _ _ _ _ (survey-ends (decode (a .t .now)) (a .k) (a .to) (l .loop .i) (a .from) _ (omega (arith, c .before .before .before .loop-test .left)) (l .loop .inv .1 .1))
+    _ (c .before .before .if1 .left) _ _ (c .before .look3 .ensures) (c .look4 .ensures)
 
 pub over-spec : {M : Type 1} → statement M
 over-spec =
@@ -125,4 +168,9 @@ over-spec =
     first-requires-4
     loop-less
     loop-again
-    returns)
+    look-requires
+    look-requires-2
+    returns
+    look-requires-3
+    look-requires-4
+    returns-2)
