@@ -104,8 +104,8 @@ tail-of (with p ps) = ps
 may-change : (t : List Version) (n cap : ℕ) (free : Bool) (r : Rows) → length t ≡ n → free ≡ ltb n cap → Sits t free r
     → All (Brings Row) (changesOf r) → Applicable t n cap r
 may-change t n cap free Nothing c q s a = tt
-may-change t n cap free (Put i v) c q s a = over-held t n i v c s (head-of a)
-may-change t n cap free (PutTwo i v j w) c q s a =
+may-change t n cap free (Put v i) c q s a = over-held t n i v c s (head-of a)
+may-change t n cap free (PutTwo v i w j) c q s a =
     (over-held t n i v c (s .0) (head-of a), over-held t n j w c (s .1) (head-of (tail-of a)))
 may-change t n cap free (Add v) c q s a = record { free = ltb-true n cap (sym q ∙ s .0); absent = s .1; small = row-small v (head-of a) }
 may-change t n cap free (Strike i k) c q s a = (let l : i < length t = s .0 in omega arith, s .1)

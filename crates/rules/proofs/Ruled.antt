@@ -111,7 +111,7 @@ module _ (w : Version) (lives : Seen) where
     own : (t : List Version) → Holds t i (w .id) → Holds t i (s .id)
     own t h = (h .0, h .1 ∙ sym (ap (λ (x : Version). x .id) es ∙ settled-id w))
 
-    pub settled-alone : replacedBy w lives ≡ Nobody → Settled i w lives (Put i s)
+    pub settled-alone : replacedBy w lives ≡ Nobody → Settled i w lives (Put s i)
     settled-alone e t rest free h l = (
       ap₂ (λ (x : Version) (cs : List Change). put x ∷ cs) es
           (sym (settles-replaced rest (l .only) ∙ ap (λ (x : Seen). map (retiring w) (listOf (theOne x))) e)),
@@ -119,7 +119,7 @@ module _ (w : Version) (lives : Seen) where
     )
 
     pub settled-over : (j : ℕ) (x old : Version) → old ≡ retired (w .stamp) x → replacedBy w lives ≡ One j x
-        → Settled i w lives (PutTwo i s j old)
+        → Settled i w lives (PutTwo s i old j)
     unfolding retired
     settled-over j x old eo e t rest free h l =
         let b = subst (Stands t) e (replaced-stands t (l .stands)) in (

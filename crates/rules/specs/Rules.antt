@@ -43,8 +43,8 @@ Holds t i k = (i < length t) × (versionAt t i .id ≡ k)
 -- each version that is put stands over the one of its name, and one that is added is new and has a free row
 abbrev pub Sits : List Version → Bool → Rows → Type 0
 Sits t free Nothing = Unit {0}
-Sits t free (Put i v) = Holds t i (v .id)
-Sits t free (PutTwo i v j w) = Holds t i (v .id) × Holds t j (w .id)
+Sits t free (Put v i) = Holds t i (v .id)
+Sits t free (PutTwo v i w j) = Holds t i (v .id) × Holds t j (w .id)
 Sits t free (Add v) = (free ≡ true) × (find (v .id) t ≡ none)
 Sits t free (Strike i k) = Holds t i k
 

@@ -36,7 +36,7 @@ fn turned(i: usize, w: Version) -> Verdict
     let run = told::sides(w, 2, 0, Lrn(0));
     Verdict {
         out: Outcome::Done,
-        rows: Rows::Put(i, w),
+        rows: Rows::Put(w, i),
         mail: Mail::One(run),
     }
 }
@@ -50,14 +50,14 @@ fn restated(i: usize, v: Version, w: Version) -> Verdict
     if v.status == w.status {
         return Verdict {
             out: Outcome::Done,
-            rows: Rows::Put(i, w),
+            rows: Rows::Put(w, i),
             mail: Mail::One(attributes),
         };
     }
     let status = told::sides(w, 2, 0, Lrn(0));
     Verdict {
         out: Outcome::Done,
-        rows: Rows::Put(i, w),
+        rows: Rows::Put(w, i),
         mail: Mail::Two(status, attributes),
     }
 }
@@ -69,7 +69,7 @@ fn marked(i: usize, w: Version) -> Verdict
     let run = told::side(w, w.old.provider, 7, 0, Lrn(0));
     Verdict {
         out: Outcome::Done,
-        rows: Rows::Put(i, w),
+        rows: Rows::Put(w, i),
         mail: Mail::One(run),
     }
 }
@@ -108,9 +108,9 @@ fn settled(i: usize, w: Version, lives: Seen) -> Rows
     match over {
         Seen::One(j, x) => {
             let old = closing::retired(w.stamp, x);
-            Rows::PutTwo(i, s, j, old)
+            Rows::PutTwo(s, i, old, j)
         }
-        Seen::Nobody => Rows::Put(i, s),
+        Seen::Nobody => Rows::Put(s, i),
     }
 }
 

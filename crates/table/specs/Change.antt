@@ -26,7 +26,7 @@ pub record Fresh (t : List Version) (n rows : ℕ) (v : Version) : Type 0 where
 -- the rows may be changed in a table of so many rows that says t, n versions
 abbrev pub Applicable : List Version → ℕ → ℕ → Rows → Type 0
 Applicable t n rows Nothing = Unit {0}
-Applicable t n rows (Put i v) = Over t n i v
-Applicable t n rows (PutTwo i v j w) = Over t n i v × Over t n j w
+Applicable t n rows (Put v i) = Over t n i v
+Applicable t n rows (PutTwo v i w j) = Over t n i v × Over t n j w
 Applicable t n rows (Add v) = Fresh t n rows v
 Applicable t n rows (Strike i k) = (i < n) × (versionAt t i .id ≡ k)

@@ -56,10 +56,10 @@ pub fn apply(t: &mut [u8], n: usize, rows: Rows)
     ensures { λ _. ⌜ now (t .exit) ≡ encode (changes (changesOf rows) (decode (now (t .entry)))) (rowsIn (now (t .entry))) ⌝ }
 {
     match rows {
-        Rows::Put(i, v) => {
+        Rows::Put(v, i) => {
             put_at(t, n, i, v);
         }
-        Rows::PutTwo(i, v, j, w) => {
+        Rows::PutTwo(v, i, w, j) => {
             put_two(t, n, i, v, j, w);
         }
         Rows::Add(v) => {

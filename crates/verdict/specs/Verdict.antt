@@ -20,8 +20,8 @@ use Rattle.verdict.specs.declared.Verdict.{Verdict}
 
 abbrev pub changesOf : Rows → List Change
 changesOf Nothing = []
-changesOf (Put i v) = put v ∷ []
-changesOf (PutTwo i v j w) = put v ∷ put w ∷ []
+changesOf (Put v i) = put v ∷ []
+changesOf (PutTwo v i w j) = put v ∷ put w ∷ []
 changesOf (Add v) = add v ∷ []
 changesOf (Strike i k) = strike k ∷ []
 

@@ -4,11 +4,11 @@ use model::Message;
 use model::Outcome;
 use model::Version;
 
-// The rows that change, each with its place.
+// The rows that change, each version with its place. The version stands first in each, so that all of them have it at one offset.
 pub enum Rows {
     Nothing,
-    Put(usize, Version),
-    PutTwo(usize, Version, usize, Version),
+    Put(Version, usize),
+    PutTwo(Version, usize, Version, usize),
     Add(Version),
     Strike(usize, Id),
 }
