@@ -39,7 +39,8 @@ use Rattle.table.proofs.Steps.{says-again, rows-again}
 use Rattle.tray.specs.Tray.{placesIn}
 use Rattle.engine.specs.Event.{tableAfter}
 use Rattle.engine.specs.Step.{settingOf, isTable, resultIn, resultOf}
-use Rattle.engine.specs.Demands.{isRecord, fieldsIn, tableBy, tableAtEnd, numbersIn, messagesIn, Lent, SameBytes, Exchanged, ByteDemand3}
+use Rattle.engine.specs.Demands.{isRecord, fieldsIn, tableBy, tableAtEnd, numbersIn, messagesIn, Lent, SameBytes, Exchanged}
+use Rattle.engine.specs.Demands.{ByteDemand3}
 
 -- ---- records
 
@@ -106,10 +107,12 @@ module _ (p b : List ℕ) (most : ℕ) (y : List ℕ) (rows : ℕ) where
       unfolding resultIn
       at e f = rw (says-sound vs rows sound, hl, hb, record-is e f, says-again vs rows sound, rows-again vs rows sound)
 
-      pub next : (e : List ℕ) → isRecord (readEvent e) ≡ true → tableBy p b most y e (encode vs rows) ≡ encode (after (stepOf S) (fieldsIn e) vs) rows
+      pub next : (e : List ℕ) → isRecord (readEvent e) ≡ true
+          → tableBy p b most y e (encode vs rows) ≡ encode (after (stepOf S) (fieldsIn e) vs) rows
       next e f = ap (λ (x : Result). tableAfter x (encode vs rows)) (at e f) ∙ go (isDone (stepOf S (fieldsIn e) vs .out)) refl
         where
-          go : (d : Bool) → isDone (stepOf S (fieldsIn e) vs .out) ≡ d → tableAfter (stepOf S (fieldsIn e) vs) (encode vs rows) ≡ encode (after (stepOf S) (fieldsIn e) vs) rows
+          go : (d : Bool) → isDone (stepOf S (fieldsIn e) vs .out) ≡ d
+              → tableAfter (stepOf S (fieldsIn e) vs) (encode vs rows) ≡ encode (after (stepOf S) (fieldsIn e) vs) rows
           go true q = rw (q, says-again vs rows sound, rows-again vs rows sound)
           go false q = rw q (ap (λ (x : List Version). encode x rows) (sym (refusal-changes-nothing S (fieldsIn e) vs q)))
 
@@ -127,16 +130,19 @@ module _ (p b : List ℕ) (most : ℕ) (y : List ℕ) (rows : ℕ) where
     numbers-are [] vs h r = refl
     numbers-are (e ∷ es) vs h (with f r) =
         ap₂ (λ (x : Result) (l : List ℕ). numberOf (x .out) ∷ l) (at vs h e f)
-        (ap (numbersIn p b most y es) (next vs h e f) ∙ numbers-are es (after (stepOf S) (fieldsIn e) vs) (stays-sound S (fieldsIn e) vs h) r)
+        (ap (numbersIn p b most y es) (next vs h e f) ∙ numbers-are es (after (stepOf S) (fieldsIn e) vs) (stays-sound S (fieldsIn e) vs h)
+        r)
 
     pub messages-are : (es : List (List ℕ)) (vs : List Version) → unsound S vs ≡ false → Records es
         → messagesIn p b most y es (encode vs rows) ≡ messages (stepOf S) (map fieldsIn es) vs
     messages-are [] vs h r = refl
     messages-are (e ∷ es) vs h (with f r) =
         ap₂ (λ (x : Result) (l : List Message). x .sent ++ l) (at vs h e f)
-        (ap (messagesIn p b most y es) (next vs h e f) ∙ messages-are es (after (stepOf S) (fieldsIn e) vs) (stays-sound S (fieldsIn e) vs h) r)
+        (ap (messagesIn p b most y es) (next vs h e f) ∙ messages-are es (after (stepOf S) (fieldsIn e) vs)
+        (stays-sound S (fieldsIn e) vs h) r)
 
-    pub same-bytes : (ns : List ℕ) (es : List (List ℕ)) (vs : List Version) → unsound S vs ≡ false → Records es → Same (stepOf S) ns (map fieldsIn es) vs
+    pub same-bytes : (ns : List ℕ) (es : List (List ℕ)) (vs : List Version) → unsound S vs ≡ false → Records es
+        → Same (stepOf S) ns (map fieldsIn es) vs
         → SameBytes p b most y ns es (encode vs rows)
     same-bytes ns es vs h r q =
         let k : Records (reorder ns es) = all-reorder (λ (e : List ℕ). isRecord (readEvent e) ≡ true) ns es r in
@@ -184,7 +190,8 @@ byte-reordering p b most y ns es t used l may =
     (demand3 S ns (map fieldsIn es) (decode t)
     (record {
       sound = h;
-      free = subst (λ (n : ℕ). length (decode t) + n ≤ rowsIn t) (sym (length-map es)) (subst (λ (n : ℕ). n + length es ≤ rowsIn t) (sym (s .count)) (l .free));
+      free = subst (λ (n : ℕ). length (decode t) + n ≤ rowsIn t) (sym (length-map es))
+          (subst (λ (n : ℕ). n + length es ≤ rowsIn t) (sym (s .count)) (l .free));
       formed = formed-fields es (l .formed);
     })
     (may-map fieldsIn (Exchangeable itself) ns es may)))

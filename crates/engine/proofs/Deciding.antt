@@ -120,7 +120,8 @@ surveyed-for t r k f c d e s = subst (λ (b : Bool). Surveyed t r k b f) e s
 -- ---- one event
 module _ (m : Marks) (b : List ℕ) (most : ℕ) (t : List ℕ) (n : ℕ) (e : Event) (places : ℕ) (st : SoundTable t n) (rd : Ready m b e places)
     (few : most ≤ 7) (f : Facts) (k : Known)
-    (sv : Surveyed (decode t) (rowsOf itself (e .tn .0) (decode t)) (nameIn e) (isCreate (e .kind)) f) (kn : KnownTo m b most (ltb n (rowsIn t)) e k) where
+    (sv : Surveyed (decode t) (rowsOf itself (e .tn .0) (decode t)) (nameIn e) (isCreate (e .kind)) f)
+    (kn : KnownTo m b most (ltb n (rowsIn t)) e k) where
   abbrev Rows-of : List Version
   Rows-of = rowsOf itself (e .tn .0) (decode t)
 

@@ -52,7 +52,8 @@ module _ (l : Listed) (b : List ℕ) (most : ℕ) (xs t y : List ℕ) where
           go Unsound q = clash (rw q at h)
           go (Sound n) q = fit-malformed l b most xs t y n (sound-says t n bytes q) q (rw q at h) r
 
-      lent-ruled : (k : ℕ) → ((g : Given) → numberOf (rule g .out) ≡ k → ⊥) → (e : Event) → readEvent xs ≡ Record e → numberOf (X .out) ≡ k → ⊥
+      lent-ruled : (k : ℕ) → ((g : Given) → numberOf (rule g .out) ≡ k → ⊥) → (e : Event) → readEvent xs ≡ Record e → numberOf (X .out) ≡ k
+          → ⊥
       lent-ruled k never e r z = go (soundnessOf t) refl
         where
           go : (s : Soundness) → soundnessOf t ≡ s → ⊥

@@ -34,10 +34,12 @@ use Rattle.engine.specs.Step.{settingOf, resultIn}
 use Rattle.model.specs.declared.Event.{Event}
 use Rattle.model.specs.declared.Marks.{Marks}
 
-pub did-refuse : (x : Result) (o : Outcome) (k : ℕ) (t y : List ℕ) → x ≡ refuse o → (k ≡ 1) × (o ≡ outcome.Unsound) → Did x t y t y (record { outcome = k; count = 0 })
+pub did-refuse : (x : Result) (o : Outcome) (k : ℕ) (t y : List ℕ) → x ≡ refuse o → (k ≡ 1) × (o ≡ outcome.Unsound)
+    → Did x t y t y (record { outcome = k; count = 0 })
 unfolding putAll
 did-refuse x o k t y e q =
-    subst (λ (b : Result). Did b t y t y (record { outcome = k; count = 0 })) (sym (e ∙ ap refuse (q .1))) (record { outcome = q .0; count = refl; table = refl; tray = refl })
+    subst (λ (b : Result). Did b t y t y (record { outcome = k; count = 0 })) (sym (e ∙ ap refuse (q .1)))
+    (record { outcome = q .0; count = refl; table = refl; tray = refl })
 
 module _ (l : Listed) (b : List ℕ) (most : ℕ) (xs t y : List ℕ) where
   abbrev X : Result
@@ -56,7 +58,8 @@ module _ (l : Listed) (b : List ℕ) (most : ℕ) (xs t y : List ℕ) where
     unfolding resultIn model.step unsound
     unfit-refused q = go (l .sound) refl (soundBytes (l .marks) b) refl (leb most 7) refl (leb 64 (placesIn y)) refl
       where
-        go : (x : Bool) → l .sound ≡ x → (k : Bool) → soundBytes (l .marks) b ≡ k → (r : Bool) → leb most 7 ≡ r → (w : Bool) → leb 64 (placesIn y) ≡ w
+        go : (x : Bool) → l .sound ≡ x → (k : Bool) → soundBytes (l .marks) b ≡ k → (r : Bool) → leb most 7 ≡ r → (w : Bool)
+            → leb 64 (placesIn y) ≡ w
             → X ≡ refuse outcome.Unsound
         go false a k c r d w f = rw (h, a)
         go true a false c r d w f = rw (h, a, c)
@@ -81,7 +84,8 @@ module _ (l : Listed) (b : List ℕ) (most : ℕ) (xs t y : List ℕ) where
       room = and-r ((l .sound && soundBytes (l .marks) b) && leb most 7) (leb 64 (placesIn y)) q
 
       pub fit-ready : (e : Event) → readEvent xs ≡ Record e → Ready (l .marks) b e (placesIn y) × (most ≤ 7)
-      fit-ready e r = (record { sound = books; formed = read-is-formed xs e r; places = leb-true 64 (placesIn y) room }, leb-true most 7 few)
+      fit-ready e r =
+          (record { sound = books; formed = read-is-formed xs e r; places = leb-true 64 (placesIn y) room }, leb-true most 7 few)
 
       fits : X ≡ whenRead (readEvent xs) (λ (e : Event). rule (given (settingOf (l .marks) b most t y) e (decode t)))
       unfolding resultIn model.step unsound
@@ -90,10 +94,12 @@ module _ (l : Listed) (b : List ℕ) (most : ℕ) (xs t y : List ℕ) where
       pub fit-rule : (e : Event) → readEvent xs ≡ Record e → X ≡ rule (givenTo (l .marks) b most t e)
       fit-rule e r =
           fits ∙ ap (λ (x : Reading). whenRead x (λ (g : Event). rule (given (settingOf (l .marks) b most t y) g (decode t)))) r
-          ∙ ap (λ (c : Bool). cond c (rule (given (settingOf (l .marks) b most t y) e (decode t))) (refuse outcome.Malformed)) (read-is-formed xs e r)
+          ∙ ap (λ (c : Bool). cond c (rule (given (settingOf (l .marks) b most t y) e (decode t))) (refuse outcome.Malformed))
+          (read-is-formed xs e r)
 
       pub fit-malformed : readEvent xs ≡ Malformed → X ≡ refuse outcome.Malformed
-      fit-malformed r = fits ∙ ap (λ (x : Reading). whenRead x (λ (g : Event). rule (given (settingOf (l .marks) b most t y) g (decode t)))) r
+      fit-malformed r =
+          fits ∙ ap (λ (x : Reading). whenRead x (λ (g : Event). rule (given (settingOf (l .marks) b most t y) g (decode t)))) r
 
 pub did-is : (x x′ : Result) (t y u z : List ℕ) (a : Answer) → x ≡ x′ → Did x′ t y u z a → Did x t y u z a
 did-is x x′ t y u z a e h = subst (λ (b : Result). Did b t y u z a) (sym e) h

@@ -46,7 +46,9 @@ module _ (p b : List ℕ) (most : ℕ) (e t y u z : List ℕ) (a : Answer) (d : 
 
   -- Every outcome 0 leaves a table that the soundness check accepts. [V12]
   pub done-accepted : a .outcome ≡ 0 → soundnessOf u ≡ Sound (usedAfter (listed (map entryOf p)) b most e t y)
-  done-accepted h = ap soundnessOf (d .table) ∙ done-scanned (listed (map entryOf p)) b most e t y (ap isDone (zero-done (resultOf p b most e t y .out) (sym (d .outcome) ∙ h)))
+  done-accepted h =
+      ap soundnessOf (d .table) ∙ done-scanned (listed (map entryOf p)) b most e t y
+      (ap isDone (zero-done (resultOf p b most e t y .out) (sym (d .outcome) ∙ h)))
 
   -- Outcome 1 exactly when table, provider list or books are unsound, R is above 7, or the tray has fewer than 64 whole places. [O2]
   pub one-exactly : Bytes t → (a .outcome ≡ 1 → Lends ≡ false) × (Lends ≡ false → a .outcome ≡ 1)
@@ -57,7 +59,8 @@ module _ (p b : List ℕ) (most : ℕ) (e t y u z : List ℕ) (a : Answer) (d : 
 
   -- Outcome 2 exactly when all that is sound, and the record is not 24 bytes or malformed. [O9]
   pub two-exactly : Bytes t
-      → (a .outcome ≡ 2 → (Lends ≡ true) × (isRecord (readEvent e) ≡ false)) × (Lends ≡ true → isRecord (readEvent e) ≡ false → a .outcome ≡ 2)
+      → (a .outcome ≡ 2 → (Lends ≡ true) × (isRecord (readEvent e) ≡ false)) × (Lends ≡ true → isRecord (readEvent e) ≡ false
+      → a .outcome ≡ 2)
   two-exactly h = (
     λ q. two-lent (listed (map entryOf p)) b most e t y h (sym (d .outcome) ∙ q),
     λ q m. d .outcome ∙ lent-two (listed (map entryOf p)) b most e t y h q m,
@@ -74,7 +77,8 @@ module _ (p b : List ℕ) (most : ℕ) (e t y u z : List ℕ) (a : Answer) (d : 
       ∙ tray-reads (resultOf p b most e t y .sent) y (sent-fits (listed (map entryOf p)) b most e t y h)
 
 -- A step sees the tray only by its number of whole places. [Y8]
-pub tray-by-places : (p b : List ℕ) (most : ℕ) (e t y z : List ℕ) → placesIn y ≡ placesIn z → resultOf p b most e t y ≡ resultOf p b most e t z
+pub tray-by-places : (p b : List ℕ) (most : ℕ) (e t y z : List ℕ) → placesIn y ≡ placesIn z
+    → resultOf p b most e t y ≡ resultOf p b most e t z
 unfolding resultIn
 tray-by-places p b most e t y z h = rw h
 

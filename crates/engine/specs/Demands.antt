@@ -73,5 +73,6 @@ Exchanged e f = Exchangeable itself (fieldsIn e) (fieldsIn f)
 
 abbrev pub ByteDemand3 : Type 0
 ByteDemand3 =
-    (p b : List ℕ) (most : ℕ) (y : List ℕ) (ns : List ℕ) (es : List (List ℕ)) (t : List ℕ) (used : ℕ) → Lent p b most y es t used → May Exchanged ns es
+    (p b : List ℕ) (most : ℕ) (y : List ℕ) (ns : List ℕ) (es : List (List ℕ)) (t : List ℕ) (used : ℕ) → Lent p b most y es t used → May
+    Exchanged ns es
     → SameBytes p b most y ns es t

@@ -58,8 +58,7 @@ module _ (t : List Version) (g : Given) (f : Facts) (s : Surveyed t (g .rows) (n
         or-false (ltb (g .event .time) (lastStamp (g .rows))),
         s .newest,
         s .stamp,
-        s
-            .sending,
+        s .sending,
         live-of t (g .rows) (nameIn (g .event)) _ f s k .is,
         worked-of t (g .rows) (nameIn (g .event)) _ f s k .is,
       )

@@ -91,24 +91,26 @@ module _ (e : Event) (k : Known) (f : Facts) (o : Outcome) (c : isCreate (e .kin
     pub create-says : (v : Verdict) → Creates e (f .newest) (f .worked) v → Decides e k f v
     unfolding accepted
     create-says v s =
-        accepted-says e k f o v create-judges d (λ bk r t fc. rw c (s t r (k .free) (fc .survey .newest) (worked-of t r (nameIn e) _ f (fc .survey) c .is)
+        accepted-says e k f o v create-judges d (λ bk r t fc. rw c (s t r (k .free) (fc .survey .newest)
+        (worked-of t r (nameIn e) _ f (fc .survey) c .is)
         (worked-of t r (nameIn e) _ f (fc .survey) c .stands) (λ w.
         (create-free w, fc .fresh (f .newest + 1) (let h = fc .survey .newest in omega arith)))))
 
 -- ---- a version that is named
-module _ (e : Event) (k : Known) (f : Facts) (c : isCreate (e .kind) ≡ false) (bk : Books) (r t : List Version) (fc : Facing bk r t e k f) where
-  asked : Found t (f .asked) (find (nameIn e) r)
-  asked = asked-of t r (nameIn e) _ f (fc .survey) c
+module _ (e : Event) (k : Known) (f : Facts) (c : isCreate (e .kind) ≡ false) (bk : Books) (r t : List Version) (fc : Facing bk r t e k f)
+  where
+    asked : Found t (f .asked) (find (nameIn e) r)
+    asked = asked-of t r (nameIn e) _ f (fc .survey) c
 
-  is-found : (s : Seen) → f .asked ≡ s → found (givenBy bk k e r) ≡ theOne s
-  is-found s q = sym (asked .is) ∙ ap theOne q
+    is-found : (s : Seen) → f .asked ≡ s → found (givenBy bk k e r) ≡ theOne s
+    is-found s q = sym (asked .is) ∙ ap theOne q
 
-  module _ (i : ℕ) (v : Version) (q : f .asked ≡ One i v) where
-    is-named : v .id ≡ nameIn e
-    is-named = find-name (nameIn e) r v (is-found (One i v) q)
+    module _ (i : ℕ) (v : Version) (q : f .asked ≡ One i v) where
+      is-named : v .id ≡ nameIn e
+      is-named = find-name (nameIn e) r v (is-found (One i v) q)
 
-    is-held : Holds t i (v .id)
-    is-held = let s = subst (Stands t) q (asked .stands) in (s .0, ap (λ (x : Version). x .id) (s .1))
+      is-held : Holds t i (v .id)
+      is-held = let s = subst (Stands t) q (asked .stands) in (s .0, ap (λ (x : Version). x .id) (s .1))
 
 -- 11 and 12 are no creates
 answer-create : (k : ℕ) → isAnswer k ≡ true → isCreate k ≡ false
@@ -147,7 +149,8 @@ module _ (e : Event) (k : Known) (f : Facts) (i : ℕ) (v : Version) (q : f .ask
     answer-says d w s =
         accepted-says e k f o w answer-judges d (λ bk r t fc.
         rw (answer-create (e .kind) a, a, is-found e k f (answer-create (e .kind) a) bk r t fc (One i v) q)
-        (s t (others (nameIn e) r) (k .free) (is-held e k f (answer-create (e .kind) a) bk r t fc i v q) (fc .lives (answer-create (e .kind) a))))
+        (s t (others (nameIn e) r) (k .free) (is-held e k f (answer-create (e .kind) a) bk r t fc i v q)
+        (fc .lives (answer-create (e .kind) a))))
 
   -- ---- all others
   module _ (c : isCreate (e .kind) ≡ false) (a : isAnswer (e .kind) ≡ false) (p : o ≡ otherFor e (k .absent) f v) where
@@ -160,7 +163,8 @@ module _ (e : Event) (k : Known) (f : Facts) (i : ℕ) (v : Version) (q : f .ask
     other-says d w s =
         accepted-says e k f o w other-judges d (λ bk r t fc.
         rw (c, a, is-found e k f c bk r t fc (One i v) q)
-        (s bk (λ b. fc .selected b ∙ ap (λ (x : Id). selectedFor bk (x .tn)) (sym (is-named e k f c bk r t fc i v q))) t (others (nameIn e) r)
+        (s bk (λ b. fc .selected b ∙ ap (λ (x : Id). selectedFor bk (x .tn)) (sym (is-named e k f c bk r t fc i v q))) t
+        (others (nameIn e) r)
         (k .free)
         (is-held e k f c bk r t fc i v q) (fc .lives c)))
 

@@ -20,8 +20,7 @@ returns c =
       c .first3 .ensures,
       c .before .first2 .ensures,
       c .before .before .first .ensures,
-      c .before .before .before .before .before
-          .awaited .ensures,
+      c .before .before .before .before .before .awaited .ensures,
     )
 
 pub answer-spec : {M : Type 1} → statement M

@@ -63,8 +63,7 @@ returns c =
       c3 .first5 .ensures,
       c4 .first4 .ensures,
       c5 .first3 .ensures,
-      c6
-          .first2 .ensures,
+      c6 .first2 .ensures,
       c7 .first .ensures,
       c11 .nobody .ensures,
       c12 .unfit .ensures,

@@ -61,8 +61,7 @@ returns c =
       c3 .first3 .ensures,
       c4 .first2 .ensures,
       c5 .first .ensures,
-      c11
-          .idle .ensures,
+      c11 .idle .ensures,
       c12 .busy .ensures,
       c13 .unready .ensures,
       c14 .grid .ensures,

@@ -56,7 +56,8 @@ returns-3 c = search needs
 returns-4 : tie.Need-returns-4
 returns-4 c =
     let d = c .before .before .before .before in
-    unknown-says _ _ _ _ _ (sym (d .before .is-create .ensures) ∙ d .if1 .left) (c .before .before .enum-told .given .1) (c .before .unknown .ensures)
+    unknown-says _ _ _ _ _ (sym (d .before .is-create .ensures) ∙ d .if1 .left) (c .before .before .enum-told .given .1)
+    (c .before .unknown .ensures)
     (c .refused .ensures)
 
 pub decide-spec : {M : Type 1} → statement M

@@ -13,8 +13,12 @@ enum-known-said c = search needs
 
 on-event-requires : tie.Need-on-event-requires
 on-event-requires c κs =
-    let s = c .before .before .before .before .before .before .before .before .before .before in
-    (s .pre .0, fit-ready (s .args .l) (now (s .args .books)) (s .args .most) (now (s .args .event)) (now (s .args .table)) (now (s .args .tray)) _ (s .pre .0) (s .pre .1 .0) (s .pre .1 .1) _ (sym (c .before .before .before .before .before .read .ensures) ∙ c .before .before .before .said .given .1))
+    let s = c .before .before .before .before .before .before .before .before .before .before in (
+      s .pre .0,
+      fit-ready (s .args .l) (now (s .args .books)) (s .args .most) (now (s .args .event)) (now (s .args .table))
+          (now (s .args .tray)) _ (s .pre .0) (s .pre .1 .0) (s .pre .1 .1) _
+          (sym (c .before .before .before .before .before .read .ensures) ∙ c .before .before .before .said .given .1),
+    )
 
 enum-told : tie.Need-enum-told
 enum-told c = search needs
@@ -28,12 +32,17 @@ same-length-2 c = search needs
 returns : tie.Need-returns
 returns c =
     let s = c .before .before .before .before .before .before .before .before .before .before .before .before .before .before .before in
-    did-is _ _ _ _ _ _ _ (fit-rule (s .args .l) (now (s .args .books)) (s .args .most) (now (s .args .event)) (now (s .args .table)) (now (s .args .tray)) _ (s .pre .0) (s .pre .1 .0) (s .pre .1 .1) _ (sym (c .before .before .before .before .before .before .before .before .before .before .read .ensures) ∙ c .before .before .before .before .before .before .before .before .said .given .1)) (c .before .before .before .before .on-event .ensures)
+    did-is _ _ _ _ _ _ _ (fit-rule (s .args .l) (now (s .args .books)) (s .args .most) (now (s .args .event)) (now (s .args .table))
+    (now (s .args .tray)) _ (s .pre .0) (s .pre .1 .0) (s .pre .1 .1) _
+    (sym (c .before .before .before .before .before .before .before .before .before .before .read .ensures) ∙
+    c .before .before .before .before .before .before .before .before .said .given .1))
+    (c .before .before .before .before .on-event .ensures)
 
 returns-2 : tie.Need-returns-2
 returns-2 c =
     let s = c .before .before .before .before .before .before .before in
-    did-malformed _ _ _ (fit-malformed (s .args .l) (now (s .args .books)) (s .args .most) (now (s .args .event)) (now (s .args .table)) (now (s .args .tray)) _ (s .pre .0) (s .pre .1 .0) (s .pre .1 .1) (sym (c .before .before .read .ensures) ∙ c .enum-told .given .1))
+    did-malformed _ _ _ (fit-malformed (s .args .l) (now (s .args .books)) (s .args .most) (now (s .args .event)) (now (s .args .table))
+    (now (s .args .tray)) _ (s .pre .0) (s .pre .1 .0) (s .pre .1 .1) (sym (c .before .before .read .ensures) ∙ c .enum-told .given .1))
 
 pub on-fitting-spec : {M : Type 1} → statement M
 on-fitting-spec =

@@ -20,12 +20,21 @@ same-length c = search needs
 returns : tie.Need-returns
 returns c =
     let s = c .before .before .before .before .before .before .before .before in
-    did-refuse _ _ _ _ _ (unfit-refused (s .args .l) (now (s .args .books)) (s .args .most) (now (s .args .event)) (now (s .args .table)) (now (s .args .tray)) _ (s .pre .0) (s .pre .1) (ap (λ (k : ℕ). fitting (s .args .l) (now (s .args .books)) (s .args .most) k) (sym (c .before .before .places .ensures)) ∙ sym (c .before .fit .ensures) ∙ not-true _ (c .if1 .taken))) (refl, refl)
+    did-refuse _ _ _ _ _ (unfit-refused (s .args .l) (now (s .args .books)) (s .args .most) (now (s .args .event)) (now (s .args .table))
+    (now (s .args .tray)) _ (s .pre .0) (s .pre .1) (ap (λ (k : ℕ). fitting (s .args .l) (now (s .args .books)) (s .args .most) k)
+    (sym (c .before .before .places .ensures)) ∙ sym (c .before .fit .ensures) ∙ not-true _ (c .if1 .taken))) (refl, refl)
 
 on-fitting-requires : tie.Need-on-fitting-requires
 on-fitting-requires c κs =
-    let s = c .before .before .before .before .before .before .before .before .before .before in
-    (s .pre .0, (s .pre .1, ap (λ (k : ℕ). fitting (s .args .l) (now (s .args .books)) (s .args .most) k) (sym (c .before .before .before .before .places .ensures)) ∙ sym (c .before .before .before .fit .ensures) ∙ not-false _ (c .before .before .if1 .left)))
+    let s = c .before .before .before .before .before .before .before .before .before .before in (
+      s .pre .0,
+      (
+        s .pre .1,
+        ap (λ (k : ℕ). fitting (s .args .l) (now (s .args .books)) (s .args .most) k)
+            (sym (c .before .before .before .before .places .ensures)) ∙ sym (c .before .before .before .fit .ensures) ∙ not-false _
+            (c .before .before .if1 .left),
+      ),
+    )
 
 same-length-2 : tie.Need-same-length-2
 same-length-2 c = search needs

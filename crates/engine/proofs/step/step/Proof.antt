@@ -22,7 +22,10 @@ same-length-2 c = search needs
 returns : tie.Need-returns
 returns c =
     let s = c .before .before .before .before .before .before .before .before .before .before .before .before .before in
-    did-is _ _ _ _ _ _ _ (ap (λ (l : Listed). resultIn l (now (s .args .books)) (s .args .most) (now (s .args .event)) (now (s .args .table)) (now (s .args .tray))) (sym (c .before .before .before .before .before .before .before .marks-of-bytes .ensures))) (c .before .before .before .before .step-listed .ensures)
+    did-is _ _ _ _ _ _ _ (ap (λ (l : Listed). resultIn l (now (s .args .books)) (s .args .most) (now (s .args .event))
+    (now (s .args .table)) (now (s .args .tray)))
+    (sym (c .before .before .before .before .before .before .before .marks-of-bytes .ensures)))
+    (c .before .before .before .before .step-listed .ensures)
 
 pub step-spec : {M : Type 1} → statement M
 step-spec =

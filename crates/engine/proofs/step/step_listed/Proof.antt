@@ -36,7 +36,8 @@ same-length-3 c = search needs
 returns-2 : tie.Need-returns-2
 returns-2 c =
     let s = c .before .before .before .before .before .before .before .before in
-    did-refuse _ _ _ _ _ (no-table (s .args .l) (now (s .args .books)) (s .args .most) (now (s .args .event)) (now (s .args .table)) (now (s .args .tray)) (sym (c .before .before .verdict .ensures) ∙ c .enum-told .given .1)) (refl, refl)
+    did-refuse _ _ _ _ _ (no-table (s .args .l) (now (s .args .books)) (s .args .most) (now (s .args .event)) (now (s .args .table))
+    (now (s .args .tray)) (sym (c .before .before .verdict .ensures) ∙ c .enum-told .given .1)) (refl, refl)
 
 pub step-listed-spec : {M : Type 1} → statement M
 step-listed-spec =

@@ -23,8 +23,7 @@ returns-2 c =
       c .before .before .before .before .if1 .taken,
       ← c .before .before .is-open .ensures,
       c .before .if2 .left,
-      c .before .before
-          .before .download .ensures,
+      c .before .before .before .download .ensures,
       c .close .ensures,
     )
 

@@ -15,12 +15,14 @@ use Rattle.table.specs.declared.survey.Facts.{Facts}
 use Rattle.table.specs.Survey.{named, seenAt}
 use Rattle.table.proofs.Numbered.{rises-type}
 use Rattle.table.proofs.Sought.{sound-good, sound-load}
-use Rattle.table.proofs.Surveys.{Summed, factsWith, survey-starts, survey-turns, survey-ends, spot-seen, of-create, of-other, found-within}
+use Rattle.table.proofs.Surveys.{Summed, factsWith, survey-starts, survey-turns, survey-ends, spot-seen, of-create, of-other}
+use Rattle.table.proofs.Surveys.{found-within}
 use Rattle.table.proofs.survey.over.Statement.{statement}
 use Rattle.table.proofs.survey.over.Tie as tie
 
 abbrev Inv-loop : tie.InvT-loop
-Inv-loop t n k create from to newest₀ stamp₀ sends₀ blocked₀ former₀ live₀ worked₀ asked₀ i₀ newest stamp sends blocked former live worked asked i =
+Inv-loop t n k create from to newest₀ stamp₀ sends₀ blocked₀ former₀ live₀ worked₀ asked₀ i₀ newest stamp sends blocked former live worked
+    asked i =
     (from ≤ i) × ((i ≤ to) × Summed (decode t) (slice i to (decode t)) k
     (record {
       newest = newest;
@@ -34,7 +36,8 @@ Inv-loop t n k create from to newest₀ stamp₀ sends₀ blocked₀ former₀ l
     }))
 
 abbrev μ-loop : tie.MeasureT-loop
-μ-loop t n k create from to newest₀ stamp₀ sends₀ blocked₀ former₀ live₀ worked₀ asked₀ i₀ newest stamp sends blocked former live worked asked i = i - from
+μ-loop t n k create from to newest₀ stamp₀ sends₀ blocked₀ former₀ live₀ worked₀ asked₀ i₀ newest stamp sends blocked former live worked
+    asked i = i - from
 
 loop-holds : tie.Need-loop-holds Inv-loop μ-loop
 loop-holds c =
@@ -101,7 +104,8 @@ loop-again c =
               stamp = c .before .before .before .before .before .before .before .before .larger32 .ensures x;
               sends = sends v || at .loop .sends;
               blocked = (not (named (a .k) v) && sends v) || at .loop .blocked;
-              former = spot-seen vs (not (named (a .k) v) && v .live) i v (at .loop .former) _ (c .before .before .before .before .first .ensures) e x;
+              former = spot-seen vs (not (named (a .k) v) && v .live) i v (at .loop .former) _
+                  (c .before .before .before .before .first .ensures) e x;
               live = spot-seen vs (v .live) i v (at .loop .live) _ (c .before .before .before .first2 .ensures) e x;
               worked =
                   (spot-seen vs (c .before .before .is-worked .result) i v (at .loop .worked) _ (c .before .first3 .ensures) e
@@ -128,7 +132,8 @@ returns : tie.Need-returns Inv-loop μ-loop
 returns c =
     let l = c .before .before .before .before in
     let a = l .before .before .args in
-    of-create _ _ _ _ (survey-ends (decode (a .t .now)) (a .k) (a .to) (l .loop .i) (a .from) _ (omega (arith, c .before .before .before .loop-test .left)) (l .loop .inv .1 .1))
+    of-create _ _ _ _ (survey-ends (decode (a .t .now)) (a .k) (a .to) (l .loop .i) (a .from) _
+    (omega (arith, c .before .before .before .loop-test .left)) (l .loop .inv .1 .1))
     _ (c .before .before .if1 .taken) _ _ (c .before .look .ensures) (c .look2 .ensures)
 
 look-requires-3 : tie.Need-look-requires-3 Inv-loop μ-loop
@@ -147,7 +152,8 @@ returns-2 : tie.Need-returns-2 Inv-loop μ-loop
 returns-2 c =
     let l = c .before .before .before .before in
     let a = l .before .before .args in
-    of-other _ _ _ _ (survey-ends (decode (a .t .now)) (a .k) (a .to) (l .loop .i) (a .from) _ (omega (arith, c .before .before .before .loop-test .left)) (l .loop .inv .1 .1))
+    of-other _ _ _ _ (survey-ends (decode (a .t .now)) (a .k) (a .to) (l .loop .i) (a .from) _
+    (omega (arith, c .before .before .before .loop-test .left)) (l .loop .inv .1 .1))
     _ (c .before .before .if1 .left) _ _ (c .before .look3 .ensures) (c .look4 .ensures)
 
 pub over-spec : {M : Type 1} → statement M
