@@ -5,6 +5,7 @@ use mathlib.Core.Option.{Option, none, some}
 use mathlib.Core.List.{List, [], _∷_}
 use Prim.Native.Nat.{ℕ, zero, suc, _+_, _-_, _*_, _≤_, _<_, max}
 use native.Mathlib.Omega.{arith}
+use borrow.Author.Tests.{eq-eqb, ne-eqb}
 use lib.ListN.{length, take, drop}
 use lib.Seq.{slice, slice-cons, slice-empty}
 use Rattle.model.specs.declared.Id.{Id}
@@ -17,9 +18,7 @@ use Rattle.table.specs.declared.survey.Seen.{Seen}
 use Rattle.table.specs.declared.survey.Seen.the-variants.{Nobody, One}
 use Rattle.table.specs.declared.survey.Facts.{Facts}
 use Rattle.table.specs.Find.{placeIn}
-use Rattle.table.specs.declared.survey.Spot.{Spot}
-use Rattle.table.specs.declared.survey.Spot.the-variants.{Nowhere, At}
-use Rattle.table.specs.Survey.{named, versionAt, Found, Within, seenAt, Surveyed}
+use Rattle.table.specs.Survey.{named, versionAt, Found, Stands, seenAt, Surveyed}
 use Rattle.table.proofs.Sought.{place-le}
 use Rattle.table.proofs.Numbered.{place-up, not-named, find-first}
 
@@ -91,18 +90,25 @@ module _ (t r : List Version) (k : Id) (c : Bool) (f : Facts) (s : Surveyed t r 
   asked-of e = subst (λ (b : Bool). Found t (f .asked) (cond b none (find k r))) e (s .asked)
 
 -- a place that was found is one of the list's
-pub found-within : (t : List Version) (n : ℕ) (p : Spot) (o : Option Version) → length t ≡ n → Found t (seenAt t p) o → Within p n
-found-within t n Nowhere o e f = tt
-found-within t n (At i) o e f = let l : i < length t = f .stands .0 in omega arith
+pub found-within : (t : List Version) (n to i : ℕ) (o : Option Version) → length t ≡ n → Found t (seenAt t to i) o → (i ≡ to → ⊥) → i < n
+found-within t n to i o e f h =
+    let g : Stands t (One i (versionAt t i)) =
+    subst (λ (b : Bool). Stands t (cond b Nobody (One i (versionAt t i)))) (ne-eqb i to h) (f .stands) in
+    let l : i < length t = g .0 in
+    omega arith
 
 -- what a place that was taken shows
-pub spot-seen : (t : List Version) (b : Bool) (i : ℕ) (v : Version) (p q : Spot) → q ≡ cond b (At i) p → v ≡ versionAt t i
-    → seenAt t q ≡ cond b (One i v) (seenAt t p)
-spot-seen t b i v p q e h = ap (seenAt t) e ∙ go b
+pub place-seen : (t : List Version) (to : ℕ) (b : Bool) (i : ℕ) (v : Version) (p q : ℕ) → q ≡ cond b i p → i < to → v ≡ versionAt t i
+    → seenAt t to q ≡ cond b (One i v) (seenAt t to p)
+place-seen t to b i v p q e l h = ap (seenAt t to) e ∙ go b
   where
-    go : (b : Bool) → seenAt t (cond b (At i) p) ≡ cond b (One i v) (seenAt t p)
-    go true = ap (One i) (sym h)
+    go : (b : Bool) → seenAt t to (cond b i p) ≡ cond b (One i v) (seenAt t to p)
+    go true = ap (λ (x : Bool). cond x Nobody (One i (versionAt t i))) (ne-eqb i to (λ z. absurd (omega arith))) ∙ ap (One i) (sym h)
     go false = refl
+
+-- nobody stands behind all
+pub none-seen : (t : List Version) (to : ℕ) → seenAt t to to ≡ Nobody
+none-seen t to = ap (λ (b : Bool). cond b Nobody (One to (versionAt t to))) (eq-eqb to to refl)
 
 -- ---- no version
 
@@ -205,8 +211,20 @@ rising-drop (suc n) [] r = tt
 rising-drop (suc n) (x ∷ xs) r = rising-drop n xs (r .1)
 
 module _ (t : List Version) (k : Id) (to : ℕ) where
-  pub survey-starts : Summed t (slice to to t) k noFacts
-  survey-starts = subst (λ (r : List Version). Summed t r k noFacts) (sym (slice-empty to t)) (none-surveyed t k)
+  pub survey-starts : (former live worked asked : Seen) → former ≡ Nobody → live ≡ Nobody → worked ≡ Nobody → asked ≡ Nobody
+      → Summed t (slice to to t) k (record {
+        newest = 0;
+        stamp = 0;
+        sends = false;
+        blocked = false;
+        former = former;
+        live = live;
+        worked =
+            worked;
+        asked = asked;
+      })
+  survey-starts f l w a p q u v =
+      rw (p, q, u, v) (subst (λ (r : List Version). Summed t r k noFacts) (sym (slice-empty to t)) (none-surveyed t k))
 
   turn : (i : ℕ) (f : Facts) → i < to → to ≤ length t → Rising t → Summed t (slice (suc i) to t) k f
       → Summed t (slice i to t) k (factsWith k i (versionAt t i) f)

@@ -13,8 +13,6 @@ use Rattle.model.specs.Basics.{any, first, largest}
 use Rattle.model.specs.Table.{find, others}
 use Rattle.model.specs.Sound.{live, sends, worked}
 use Rattle.row.specs.Layout.{unpack}
-use Rattle.table.specs.declared.survey.Spot.{Spot}
-use Rattle.table.specs.declared.survey.Spot.the-variants.{Nowhere, At}
 use Rattle.table.specs.declared.survey.Seen.{Seen}
 use Rattle.table.specs.declared.survey.Seen.the-variants.{Nobody, One}
 use Rattle.table.specs.declared.survey.Facts.{Facts}
@@ -49,15 +47,9 @@ pub record Found (t : List Version) (s : Seen) (o : Option Version) : Type 0 whe
   pub is : theOne s ≡ o
   pub stands : Stands t s
 
--- ---- a place, before its version is read
-
-abbrev pub Within : Spot → ℕ → Type 0
-Within Nowhere n = Unit {0}
-Within (At i) n = i < n
-
-abbrev pub seenAt : List Version → Spot → Seen
-seenAt t Nowhere = Nobody
-seenAt t (At i) = One i (versionAt t i)
+-- the version at a place, or nobody at the place behind all
+abbrev pub seenAt : List Version → ℕ → ℕ → Seen
+seenAt t to i = cond (eqb i to) Nobody (One i (versionAt t i))
 
 -- ---- what the rules ask
 

@@ -10,19 +10,12 @@ ghost use lib.Seq.{slice};
 ghost use Rattle.model.specs.Table.{rowsOf};
 ghost use Rattle.rows.specs.Table.{decode};
 ghost use Rattle.scan.specs.Sound.{SoundTable, itself};
-ghost use Rattle.table.specs.declared.survey.Spot.the-variants.{At};
-ghost use Rattle.table.specs.Survey.{Within, seenAt, Surveyed};
+ghost use Rattle.table.specs.Survey.{seenAt, Surveyed};
 
 // A version, with its place.
 pub enum Seen {
     Nobody,
     One(usize, Version),
-}
-
-// A place, before its version is read.
-pub enum Spot {
-    Nowhere,
-    At(usize),
 }
 
 // Of the versions of a number: the newest number, the largest stamp, whether one is sending. For a create the live one and the worked one. For
@@ -51,22 +44,23 @@ fn larger32(a: u32, b: u32) -> u32
     if a < b { b } else { a }
 }
 
-// Place i where its version passes, else the one before.
-fn first(passes: bool, i: usize, s: Spot) -> Spot
-    ensures { λ r. ⌜ r ≡ cond passes (At i) s ⌝ }
+// Place i where its version passes, else the one before. A number, so that it is taken without a branch.
+fn first(passes: bool, i: usize, p: usize) -> usize
+    ensures { λ r. ⌜ r ≡ cond passes i p ⌝ }
 {
-    if passes { Spot::At(i) } else { s }
+    if passes { i } else { p }
 }
 
-fn look(t: &[u8], n: usize, s: Spot) -> Seen
+// The version at a place, or nobody at `to`, the place behind all.
+fn look(t: &[u8], n: usize, to: usize, i: usize) -> Seen
     requires { ⌜ SoundTable (now t) n ⌝ }
-    requires { ⌜ Within s n ⌝ }
-    ensures { λ r. ⌜ r ≡ seenAt (decode (now (t .entry))) s ⌝ }
+    requires { ⌜ ((i ≡ to → ⊥) → i < n) ⌝ }
+    ensures { λ r. ⌜ r ≡ seenAt (decode (now (t .entry))) to i ⌝ }
 {
-    match s {
-        Spot::At(i) => Seen::One(i, rows::load(t, i)),
-        Spot::Nowhere => Seen::Nobody,
+    if i == to {
+        return Seen::Nobody;
     }
+    Seen::One(i, rows::load(t, i))
 }
 
 // The versions from `from` up to, not including, `to`: of each what the sums ask, and whole those that the kind asks for.
@@ -79,10 +73,10 @@ fn over(t: &[u8], n: usize, k: Id, create: bool, from: usize, to: usize) -> Fact
     let mut stamp: u32 = 0;
     let mut sends = false;
     let mut blocked = false;
-    let mut former = Spot::Nowhere;
-    let mut live = Spot::Nowhere;
-    let mut worked = Spot::Nowhere;
-    let mut asked = Spot::Nowhere;
+    let mut former = to;
+    let mut live = to;
+    let mut worked = to;
+    let mut asked = to;
     let mut i = to;
     while from < i {
         i -= 1;
@@ -105,8 +99,8 @@ fn over(t: &[u8], n: usize, k: Id, create: bool, from: usize, to: usize) -> Fact
             sends,
             blocked,
             former: Seen::Nobody,
-            live: look(t, n, live),
-            worked: look(t, n, worked),
+            live: look(t, n, to, live),
+            worked: look(t, n, to, worked),
             asked: Seen::Nobody,
         };
     }
@@ -115,10 +109,10 @@ fn over(t: &[u8], n: usize, k: Id, create: bool, from: usize, to: usize) -> Fact
         stamp,
         sends,
         blocked,
-        former: look(t, n, former),
+        former: look(t, n, to, former),
         live: Seen::Nobody,
         worked: Seen::Nobody,
-        asked: look(t, n, asked),
+        asked: look(t, n, to, asked),
     }
 }
 

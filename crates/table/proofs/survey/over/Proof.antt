@@ -15,7 +15,8 @@ use Rattle.table.specs.declared.survey.Facts.{Facts}
 use Rattle.table.specs.Survey.{named, seenAt}
 use Rattle.table.proofs.Numbered.{rises-type}
 use Rattle.table.proofs.Sought.{sound-good, sound-load}
-use Rattle.table.proofs.Surveys.{Summed, factsWith, survey-starts, survey-turns, survey-ends, spot-seen, of-create, of-other}
+use Rattle.table.proofs.Surveys.{Summed, factsWith, survey-starts, survey-turns, survey-ends, none-seen, place-seen, of-create}
+use Rattle.table.proofs.Surveys.{of-other}
 use Rattle.table.proofs.Surveys.{found-within}
 use Rattle.table.proofs.survey.over.Statement.{statement}
 use Rattle.table.proofs.survey.over.Tie as tie
@@ -29,10 +30,10 @@ Inv-loop t n k create from to newest₀ stamp₀ sends₀ blocked₀ former₀ l
       stamp = stamp;
       sends = sends;
       blocked = blocked;
-      former = seenAt (decode t) former;
-      live = seenAt (decode t) live;
-      worked = seenAt (decode t) worked;
-      asked = seenAt (decode t) asked;
+      former = seenAt (decode t) to former;
+      live = seenAt (decode t) to live;
+      worked = seenAt (decode t) to worked;
+      asked = seenAt (decode t) to asked;
     }))
 
 abbrev μ-loop : tie.MeasureT-loop
@@ -42,7 +43,9 @@ abbrev μ-loop : tie.MeasureT-loop
 loop-holds : tie.Need-loop-holds Inv-loop μ-loop
 loop-holds c =
     let a = c .before .args in
-    (omega (arith, c .before .pre .1), (omega arith, survey-starts (decode (a .t .now)) (a .k) (a .to)))
+    let vs = decode (a .t .now) in
+    let z = none-seen vs (a .to) in
+    (omega (arith, c .before .pre .1), (omega arith, survey-starts vs (a .k) (a .to) _ _ _ _ z z z z))
 
 sub-i : tie.Need-sub-i Inv-loop μ-loop
 sub-i c = omega arith
@@ -89,6 +92,7 @@ loop-again c =
     let i = at .loop .i - 1 in
     let v = ld .load .result in
     let h : i < a .n = omega (arith, ld .before .loop-test .taken, at .loop .inv .1 .0, st .pre .1) in
+    let up : i < a .to = omega (arith, ld .before .loop-test .taken, at .loop .inv .1 .0) in
     let e = ld .load .ensures ∙ sound-load (a .t .now) (a .n) (st .pre .0) i (unpack []) h in (
       omega (arith, ld .before .loop-test .taken),
       (
@@ -104,13 +108,13 @@ loop-again c =
               stamp = c .before .before .before .before .before .before .before .before .larger32 .ensures x;
               sends = sends v || at .loop .sends;
               blocked = (not (named (a .k) v) && sends v) || at .loop .blocked;
-              former = spot-seen vs (not (named (a .k) v) && v .live) i v (at .loop .former) _
-                  (c .before .before .before .before .first .ensures) e x;
-              live = spot-seen vs (v .live) i v (at .loop .live) _ (c .before .before .before .first2 .ensures) e x;
+              former = place-seen vs (a .to) (not (named (a .k) v) && v .live) i v (at .loop .former) _
+                  (c .before .before .before .before .first .ensures) up e x;
+              live = place-seen vs (a .to) (v .live) i v (at .loop .live) _ (c .before .before .before .first2 .ensures) up e x;
               worked =
-                  (spot-seen vs (c .before .before .is-worked .result) i v (at .loop .worked) _ (c .before .first3 .ensures) e
-                  ∙ ap (λ (b : Bool). cond b (One i v) (seenAt vs (at .loop .worked))) (c .before .before .is-worked .ensures)) x;
-              asked = spot-seen vs (named (a .k) v) i v (at .loop .asked) _ (c .first4 .ensures) e x;
+                  (place-seen vs (a .to) (c .before .before .is-worked .result) i v (at .loop .worked) _ (c .before .first3 .ensures) up e
+                  ∙ ap (λ (b : Bool). cond b (One i v) (seenAt vs (a .to) (at .loop .worked))) (c .before .before .is-worked .ensures)) x;
+              asked = place-seen vs (a .to) (named (a .k) v) i v (at .loop .asked) _ (c .first4 .ensures) up e x;
             })
             (at .loop .inv .1 .1),
       ),
@@ -120,13 +124,13 @@ look-requires : tie.Need-look-requires Inv-loop μ-loop
 look-requires c κs =
     let l = c .before .before in
     let st = l .before .before in
-    (st .pre .0, found-within _ _ (l .loop .live) _ (st .pre .0 .count) (l .loop .inv .1 .1 .live))
+    (st .pre .0, found-within _ _ _ (l .loop .live) _ (st .pre .0 .count) (l .loop .inv .1 .1 .live))
 
 look-requires-2 : tie.Need-look-requires-2 Inv-loop μ-loop
 look-requires-2 c κs =
     let l = c .before .before .before in
     let st = l .before .before in
-    (st .pre .0, found-within _ _ (l .loop .worked) _ (st .pre .0 .count) (l .loop .inv .1 .1 .worked))
+    (st .pre .0, found-within _ _ _ (l .loop .worked) _ (st .pre .0 .count) (l .loop .inv .1 .1 .worked))
 
 returns : tie.Need-returns Inv-loop μ-loop
 returns c =
@@ -140,13 +144,13 @@ look-requires-3 : tie.Need-look-requires-3 Inv-loop μ-loop
 look-requires-3 c κs =
     let l = c .before .before in
     let st = l .before .before in
-    (st .pre .0, found-within _ _ (l .loop .former) _ (st .pre .0 .count) (l .loop .inv .1 .1 .former))
+    (st .pre .0, found-within _ _ _ (l .loop .former) _ (st .pre .0 .count) (l .loop .inv .1 .1 .former))
 
 look-requires-4 : tie.Need-look-requires-4 Inv-loop μ-loop
 look-requires-4 c κs =
     let l = c .before .before .before in
     let st = l .before .before in
-    (st .pre .0, found-within _ _ (l .loop .asked) _ (st .pre .0 .count) (l .loop .inv .1 .1 .asked))
+    (st .pre .0, found-within _ _ _ (l .loop .asked) _ (st .pre .0 .count) (l .loop .inv .1 .1 .asked))
 
 returns-2 : tie.Need-returns-2 Inv-loop μ-loop
 returns-2 c =
