@@ -779,11 +779,12 @@ lupinenblatt_answer hand_step(uint8_t *table, size_t table_length, const uint8_t
     return act(&g, event, tray);
 }
 
+/* A call without R takes 3. */
 lupinenblatt_answer hand_step_default(uint8_t *table, size_t table_length, const uint8_t *providers, size_t providers_length,
                                       const uint8_t *books, size_t books_length, const uint8_t *event, size_t event_length, uint8_t *tray,
                                       size_t tray_length)
 {
-    return hand_step(table, table_length, providers, providers_length, books, books_length, 0, event, event_length, tray, tray_length);
+    return hand_step(table, table_length, providers, providers_length, books, books_length, 3, event, event_length, tray, tray_length);
 }
 
 lupinenblatt_ran hand_run(uint8_t *table, size_t table_length, const uint8_t *providers, size_t providers_length, const uint8_t *books,

@@ -22,7 +22,7 @@ lupinenblatt_answer lupinenblatt_step(uint8_t *table, size_t table_len, const ui
                                       size_t books_len, uint64_t retries, const uint8_t *event, size_t event_len, uint8_t *tray,
                                       size_t tray_len);
 
-/* As lupinenblatt_step with R = 0. */
+/* As lupinenblatt_step with R = 3. */
 lupinenblatt_answer lupinenblatt_step_default(uint8_t *table, size_t table_len, const uint8_t *providers, size_t providers_len,
                                               const uint8_t *books, size_t books_len, const uint8_t *event, size_t event_len, uint8_t *tray,
                                               size_t tray_len);

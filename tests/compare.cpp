@@ -30,6 +30,7 @@ struct Tally {
     uint64_t events = 0, differ = 0, records = 0, exchanged = 0, unsoundAfter = 0, checks = 0, runs = 0, stops = 0;
     uint64_t outcomes[KINDS + 2][OUTCOMES + 1] = {};  // by kind (the first and the last: no kind) and outcome (the last: no outcome)
     uint64_t tableFaults[TABLE_CLAUSES + 2] = {}, booksFaults[BOOKS_CLAUSES + 2] = {};  // by number (the last: no number)
+    uint64_t shortCalls = 0, shortSilences[MOST_RETRIES + 1] = {};  // calls without R; their accepted silences by the retries used before
     uint64_t seed = 0, sequence = 0;
 } tally;
 
@@ -88,6 +89,12 @@ lupinenblatt_answer callLibrary(Slices &s, const Bytes &record) {
                              record.size(), at(s.tray), s.tray.size());
 }
 
+// The retries that a silence's system has used.
+uint64_t retriesUsed(std::optional<Table> &table, const std::optional<Event> &e) {
+    Version *v = table && e && e->kind == SILENCE ? findVersion(*table, e->tn, e->version) : nullptr;
+    return v && v->retries.count(e->other) ? v->retries[e->other] : 0;
+}
+
 // One event through both. The slices are the library's, table and books the model's. False where they differ.
 bool compareStep(Slices &s, const Bytes &record, std::optional<Table> &table, const std::optional<Books> &books, Result &model,
                  lupinenblatt_answer &library) {
@@ -95,7 +102,9 @@ bool compareStep(Slices &s, const Bytes &record, std::optional<Table> &table, co
     static Bytes table2, tray2;
     before = s;
     library = callLibrary(s, record);
-    model = step(table, books, s.R, unpackEvent(record.data(), record.size()), s.tray.size() / MESSAGE);
+    std::optional<Event> e = unpackEvent(record.data(), record.size());
+    uint64_t used = retriesUsed(table, e);
+    model = step(table, books, s.R, e, s.tray.size() / MESSAGE);
     tray2 = before.tray;
     if (model.outcome == DONE) {
         packTable(*table, table2);
@@ -103,7 +112,8 @@ bool compareStep(Slices &s, const Bytes &record, std::optional<Table> &table, co
     } else {
         table2 = before.table;
     }
-    tally.events++;
+    tally.events++, tally.shortCalls += s.shortCall;
+    if (s.shortCall && model.outcome == DONE && e->kind == SILENCE) tally.shortSilences[used]++;
     bool counted = counts(record.empty() ? 0 : record[0], model.outcome);
     const char *what = library.outcome != model.outcome ? "outcome" : library.count != model.messages.size() ? "count"
         : s.table != table2 ? "table" : s.tray != tray2 ? "tray" : s.providers != before.providers ? "providers written to"
@@ -130,7 +140,7 @@ Slices slicesOf(Dice &d, const Situation &s) {
     out.providers = packProviders(s.books);
     out.books = packBooks(s.books);
     out.R = s.R;
-    out.shortCall = s.R == 0 && d.chance(50);
+    out.shortCall = s.R == DEFAULT_R && d.chance(60);
     out.tray.resize(PLACES * MESSAGE + (d.chance(25) ? d.below(60) : 0));
     for (uint8_t &byte : out.tray) byte = uint8_t(d.next());
     return out;
@@ -522,27 +532,38 @@ void printTally() {
                 (unsigned long long)tally.checks, (unsigned long long)tally.runs, (unsigned long long)tally.stops);
 }
 
-#ifdef TEST_FAULTS
-// How often each number was seen; in a run of a million events or more each must be seen 50 times. False where one was not.
-bool printFaults(bool enough) {
+// A count as it is printed; in a run of a million events or more it must be 50 at least. False where it is not.
+bool seen(uint64_t count) {
+    bool rare = tally.events >= 1000000 && count < 50;
+    std::printf("%10llu%s", (unsigned long long)count, rare ? " (fewer than 50)" : "");
+    return !rare;
+}
+
+// How often a silence was heard by a call without R after so many retries: with fewer than its R it asks again, else it gives the system up.
+bool printShort() {
     bool good = true;
-    auto seen = [&](uint64_t count) {
-        bool rare = enough && count < 50;
-        good = good && !rare;
-        std::printf("%10llu%s", (unsigned long long)count, rare ? " (fewer than 50)" : "");
-    };
+    std::printf("%llu calls without R; their silences after 0 to %zu retries:", (unsigned long long)tally.shortCalls, MOST_RETRIES);
+    for (uint64_t count : tally.shortSilences) good = seen(count) && good;
+    std::printf("\n");
+    return good;
+}
+
+#ifdef TEST_FAULTS
+// How often each number was seen. False where one was seen too rarely.
+bool printFaults() {
+    bool good = true;
     std::printf("where         table     books\n");
     static_assert(BOOKS_CLAUSES <= TABLE_CLAUSES, "a line for each number of either");
     for (size_t n = 0; n <= TABLE_CLAUSES; n++) {
         std::printf("%-9zu", n);
-        seen(tally.tableFaults[n]);
-        if (n <= BOOKS_CLAUSES) seen(tally.booksFaults[n]);
+        good = seen(tally.tableFaults[n]) && good;
+        if (n <= BOOKS_CLAUSES) good = seen(tally.booksFaults[n]) && good;
         std::printf("\n");
     }
     return good;
 }
 #else
-bool printFaults(bool) { return true; }
+bool printFaults() { return true; }
 #endif
 
 }  // namespace
@@ -561,7 +582,8 @@ int main(int argc, char **argv) {
         else runSequence(d);
         if (argc > 3) break;
     }
-    bool enough = printFaults(tally.events >= 1000000);
+    bool enough = printFaults();
+    enough = printShort() && enough;
     printTally();
     std::printf("%llu events compared, %llu differ\n", (unsigned long long)tally.events, (unsigned long long)tally.differ);
     return tally.differ == 0 && enough ? 0 : 1;

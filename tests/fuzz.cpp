@@ -175,16 +175,17 @@ void printInput(const Input &in) {
 const std::string ABOVE = "an outcome above " + std::to_string(OUTCOMES - 1);
 const std::string MORE = "more than " + std::to_string(MOST_MESSAGES) + " messages";
 
-// Counts the outcome; the last place is for one that is none, which is a fault.
-void checkStep(Dice &d, Places &p, const Input &in, uint64_t (&outcomes)[OUTCOMES + 1]) {
+// Counts the outcome; the last place is for one that is none, which is a fault. Half of the calls with the R of a call without R are made so.
+void checkStep(Dice &d, Places &p, const Input &in, uint64_t (&outcomes)[OUTCOMES + 1], uint64_t &shortCalls) {
     uint8_t *table = p.table.lay(d, in.table), *providers = p.providers.lay(d, in.providers), *books = p.books.lay(d, in.books);
     uint8_t *event = p.event.lay(d, in.event), *tray = p.tray.lay(d, in.tray);
-    lupinenblatt_answer a = in.R == 0 && d.chance(50)
+    bool shortCall = in.R == DEFAULT_R && d.chance(50);
+    lupinenblatt_answer a = shortCall
         ? lupinenblatt_step_default(table, in.table.size(), providers, in.providers.size(), books, in.books.size(), event, in.event.size(), tray,
                                     in.tray.size())
         : lupinenblatt_step(table, in.table.size(), providers, in.providers.size(), books, in.books.size(), in.R, event, in.event.size(), tray,
                             in.tray.size());
-    outcomes[std::min<uint64_t>(a.outcome, OUTCOMES)]++;
+    outcomes[std::min<uint64_t>(a.outcome, OUTCOMES)]++, shortCalls += shortCall;
     const char *what = nullptr;
     if (a.outcome >= OUTCOMES) what = ABOVE.c_str();
     else if (a.outcome != 0 && a.count != 0) what = "a refusal with messages";
@@ -358,7 +359,7 @@ void checkRecord(Dice &d, Places &p, const Input &in) {
 }  // namespace
 
 int main(int argc, char **argv) {
-    uint64_t wanted = argc > 1 ? std::strtoull(argv[1], nullptr, 10) : 400000, outcomes[OUTCOMES + 1] = {}, done = 0;
+    uint64_t wanted = argc > 1 ? std::strtoull(argv[1], nullptr, 10) : 400000, outcomes[OUTCOMES + 1] = {}, shortCalls = 0, done = 0;
     seed = argc > 2 ? std::strtoull(argv[2], nullptr, 10) : 1;
     input = argc > 3 ? std::strtoull(argv[3], nullptr, 10) : 1;
     std::signal(SIGSEGV, touched);
@@ -386,11 +387,12 @@ int main(int argc, char **argv) {
             checkRun(own, places, in, blank);
         }
 #endif
-        else checkStep(own, places, in, outcomes);
+        else checkStep(own, places, in, outcomes, shortCalls);
     }
     std::printf("outcomes 0 to %zu:", OUTCOMES - 1);
     for (size_t i = 0; i < OUTCOMES; i++) std::printf(" %llu", (unsigned long long)outcomes[i]);
     if (outcomes[OUTCOMES] != 0) std::printf(", other: %llu", (unsigned long long)outcomes[OUTCOMES]);
+    std::printf("; calls without R: %llu", (unsigned long long)shortCalls);
     std::printf("\n%llu inputs, %llu faults\n", (unsigned long long)done, (unsigned long long)faults);
     return faults == 0 ? 0 : 1;
 }

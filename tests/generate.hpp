@@ -150,7 +150,7 @@ inline Version makeVersion(Dice &d, const Situation &s, Tn tn, uint64_t number, 
     if (status == SENDING) {
         v.start = after(s.base, d.below(30));
         for (Provider p : v.waiting)
-            if (d.chance(35)) v.retries[p] = d.between(1, MOST_RETRIES);
+            if (d.chance(60)) v.retries[p] = d.between(1, MOST_RETRIES);
     }
     bool needsConfirmed = v.live && v.purpose == ACTIVATE;
     if (sets && !(needsConfirmed && v.confirmed.empty())) v.failed = anySystems(d, s, v.confirmed, v.waiting, 0);
@@ -198,12 +198,18 @@ inline void makeTable(Dice &d, Situation &s, const std::vector<Code> &homes, siz
     s.table.freeRows = std::min<size_t>(freeRows, MOST_ROWS - s.table.used.size());
 }
 
+// R: often none, often that of the calls without R, otherwise any.
+inline uint64_t anyR(Dice &d) {
+    uint64_t way = d.below(100);
+    return way < 30 ? 0 : way < 60 ? DEFAULT_R : d.below(MOST_RETRIES + 1);
+}
+
 inline Situation makeSituation(Dice &d, size_t freeRows) {
     Situation s;
     std::vector<Code> homes;
     makeProviders(d, s);
     makeLists(d, s, homes);
-    s.R = d.chance(40) ? 0 : d.below(MOST_RETRIES + 1);
+    s.R = anyR(d);
     s.base = d.pick(std::vector<Time>{1, 1, 1000, 1700000000, LAST_TIME - 60, LAST_TIME - 5000});
     makeTable(d, s, homes, freeRows);
     if (!sound(s.books) || !sound(s.table)) {

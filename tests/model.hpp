@@ -1,6 +1,6 @@
-// Document 01 once more, as a plain program.
+// Document 01 once more, as a plain program, with the requests of document 02 that have landed.
 //
-// It is written from the paper alone, section by section and in its words, over ordinary structs, lists and sets; it knows nothing of the
+// It is written from the papers alone, section by section and in their words, over ordinary structs, lists and sets; it knows nothing of the
 // library's code. The tests compare the library with it. Clause names stand in brackets as in docs/CLAUSES.md. The bytes of docs/LAYOUTS.md
 // are in layouts.hpp.
 #pragma once
@@ -763,5 +763,8 @@ inline Result step(std::optional<Table> &t, const std::optional<Books> &b, uint6
     if (r.outcome == DONE) r.messages = done(*t, *b, R, *e);
     return r;
 }
+
+// [A9.1] The R of a call without R.
+constexpr uint64_t DEFAULT_R = 3;
 
 }  // namespace MODEL

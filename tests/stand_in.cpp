@@ -29,7 +29,7 @@ extern "C" lupinenblatt_answer lupinenblatt_step(uint8_t *table, size_t tableLen
 extern "C" lupinenblatt_answer lupinenblatt_step_default(uint8_t *table, size_t tableLength, const uint8_t *providers, size_t providersLength,
                                                          const uint8_t *books, size_t booksLength, const uint8_t *event, size_t eventLength,
                                                          uint8_t *tray, size_t trayLength) {
-    return lupinenblatt_step(table, tableLength, providers, providersLength, books, booksLength, 0, event, eventLength, tray, trayLength);
+    return lupinenblatt_step(table, tableLength, providers, providersLength, books, booksLength, DEFAULT_R, event, eventLength, tray, trayLength);
 }
 
 extern "C" lupinenblatt_answer lupinenblatt_table_check(const uint8_t *table, size_t tableLength) {
