@@ -27,9 +27,9 @@ extern "C" {
 
 /* The version of header and library; docs/LAYOUTS.md says what each part counts. */
 #define LUPINENBLATT_VERSION_MAJOR 0
-#define LUPINENBLATT_VERSION_MINOR 2
+#define LUPINENBLATT_VERSION_MINOR 3
 #define LUPINENBLATT_VERSION_PATCH 0
-#define LUPINENBLATT_VERSION "0.2.0"
+#define LUPINENBLATT_VERSION "0.3.0"
 #define LUPINENBLATT_VERSION_NUMBER (1000000 * LUPINENBLATT_VERSION_MAJOR + 1000 * LUPINENBLATT_VERSION_MINOR + LUPINENBLATT_VERSION_PATCH)
 
 /* Outcome numbers. */
@@ -104,7 +104,8 @@ extern "C" {
 #define LUPINENBLATT_MESSAGE_BYTES 24
 #define LUPINENBLATT_TRAY_PLACES 64
 #define LUPINENBLATT_TRAY_BYTES (LUPINENBLATT_TRAY_PLACES * LUPINENBLATT_MESSAGE_BYTES)  /* of a tray that is just large enough */
-#define LUPINENBLATT_MOST_RETRIES 7
+#define LUPINENBLATT_MOST_RETRIES 7     /* R at most */
+#define LUPINENBLATT_DEFAULT_RETRIES 3  /* the R of lupinenblatt_step_default */
 
 /* The books' lists: where each begins, and how many places it has. */
 #define LUPINENBLATT_CODES_AT 8
@@ -245,7 +246,10 @@ lupinenblatt_answer lupinenblatt_step(uint8_t *table, size_t table_length, const
                                       const uint8_t *books, size_t books_length, uint64_t retries, const uint8_t *event, size_t event_length,
                                       uint8_t *tray, size_t tray_length);
 
-/* The same call with R = 0. */
+/*
+ * The same call without R: it takes LUPINENBLATT_DEFAULT_RETRIES, which is 3, so that a Local SMS is asked up to three times more before its
+ * silence counts as a failure. Up to version 0.2.0 it took 0; a caller that relied on that calls lupinenblatt_step with 0.
+ */
 lupinenblatt_answer lupinenblatt_step_default(uint8_t *table, size_t table_length, const uint8_t *providers, size_t providers_length,
                                               const uint8_t *books, size_t books_length, const uint8_t *event, size_t event_length,
                                               uint8_t *tray, size_t tray_length);

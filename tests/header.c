@@ -1,5 +1,6 @@
 /*
- * Every inline function of include/lupinenblatt.h on bytes made by hand from docs/LAYOUTS.md, and the calls with null and length 0.
+ * Every inline function of include/lupinenblatt.h on bytes made by hand from docs/LAYOUTS.md, the R of the call without R, and the calls with
+ * null and length 0.
  * tests/header builds it as C99 and as C++17 and runs both. With an argument it prints the words of outcomes and clauses, a line for each number.
  */
 #include <stdio.h>
@@ -234,6 +235,39 @@ static void other_words(void)
     SAME(lupinenblatt_books_fault_name(LUPINENBLATT_FAULT_NONE), "nothing at fault");
 }
 
+/* One event through the call without R, on a table of one row and two providers with Local SMSs. */
+static lupinenblatt_answer short_call(uint8_t *table, uint8_t *tray, lupinenblatt_event e)
+{
+    uint8_t list[2] = {LUPINENBLATT_PROVIDER_LOCAL, LUPINENBLATT_PROVIDER_LOCAL}, bytes[LUPINENBLATT_RECORD_BYTES];
+    CHECK(lupinenblatt_event_write(e, bytes, sizeof bytes) == LUPINENBLATT_DONE);
+    return lupinenblatt_step_default(table, LUPINENBLATT_ROW_BYTES, list, sizeof list, books, sizeof books, bytes, sizeof bytes, tray,
+                                     LUPINENBLATT_TRAY_BYTES);
+}
+
+/* Without R a silent system is asked again as often as the header says, and then given up. */
+static void retries(void)
+{
+    static uint8_t table[LUPINENBLATT_ROW_BYTES], tray[LUPINENBLATT_TRAY_BYTES];
+    lupinenblatt_event new_side = {LUPINENBLATT_NEW_CREATES, 2, 1, 0, 0, 3035550100u, 3035550000u, 0, 10, 10};
+    lupinenblatt_event old_side = {LUPINENBLATT_OLD_CREATES, 1, 2, LUPINENBLATT_YES, 0, 3035550100u, 0, 0, 10, 10};
+    lupinenblatt_event activate = {LUPINENBLATT_ACTIVATE, 2, 0, 0, 0, 3035550100u, 0, 1, 10, 0};
+    lupinenblatt_event silence = {LUPINENBLATT_SILENCE, 0, 2, 0, 0, 3035550100u, 0, 1, 10, 0};
+    memset(books, 0, sizeof books);
+    lupinenblatt_books_put_code(books, 0, 303555, 1);
+    CHECK(LUPINENBLATT_DEFAULT_RETRIES == 3);
+    CHECK(short_call(table, tray, new_side).outcome == LUPINENBLATT_DONE);
+    CHECK(short_call(table, tray, old_side).outcome == LUPINENBLATT_DONE);
+    CHECK(short_call(table, tray, activate).count == 2);
+    for (unsigned used = 0; used <= LUPINENBLATT_DEFAULT_RETRIES; used++) {
+        lupinenblatt_answer a = short_call(table, tray, silence);
+        lupinenblatt_row_fields row = lupinenblatt_row(table, 0);
+        int again = used < LUPINENBLATT_DEFAULT_RETRIES;
+        CHECK(a.outcome == LUPINENBLATT_DONE && a.count == (again ? 1u : 0u));
+        CHECK(lupinenblatt_set_has(row.waiting, 2) == again && lupinenblatt_set_has(row.failed, 2) == !again);
+        CHECK(!again || (lupinenblatt_message(tray, 0).sort == LUPINENBLATT_DOWNLOAD_CREATE && lupinenblatt_message(tray, 0).provider == 2));
+    }
+}
+
 /* What the library at hand does with null and 0, which is tested and not promised. */
 static void nulls(void)
 {
@@ -286,6 +320,7 @@ int main(int count, char **arguments)
     status_words();
     sort_words();
     other_words();
+    retries();
     nulls();
     printf("%u checks, %u wrong\n", checks, wrong);
     return wrong != 0;

@@ -1,15 +1,15 @@
 // The step, and the checks of what it is lent.
 use outcomes::Answer;
 ghost use mathlib.Core.Path.{_≡_};
-ghost use Rattle.model.specs.Books.{defaultRetries};
 ghost use Rattle.scan.specs.Sound.{soundnessOf};
 ghost use Rattle.engine.specs.Event.{Did};
 ghost use Rattle.engine.specs.Step.{resultOf};
 ghost use Rattle.checks.specs.Checks.{checkedTable, checkedBooks};
+ghost use Rattle.lupinenblatt.specs.Default.{defaultRetries};
 
 const MOST_RETRIES: u64 = 7;
 
-const DEFAULT_RETRIES: u8 = 0;
+const DEFAULT_RETRIES: u8 = 3;
 
 // One event on a table.
 #[no_mangle]
@@ -32,7 +32,7 @@ pub extern "C" fn lupinenblatt_step(
     engine::step::step(table, providers, books, retries as u8, event, tray)
 }
 
-// The same with document 01's own R.
+// The same without R. [A9.1]
 #[no_mangle]
 pub extern "C" fn lupinenblatt_step_default(
     table: &mut [u8],

@@ -114,9 +114,6 @@ unfoldable pub soundBooks : Books → Bool
 soundBooks bk =
     soundMarks (bk .marks) && soundCodes (bk .marks) (bk .codes) && soundFilters (bk .marks) (bk .filters) && soundSplits (bk .splits)
 
--- Retry number R, 0 to 7; the short call without R uses this. [B5]
-abbrev pub defaultRetries : ℕ
-defaultRetries = 0
-
+-- Retry number R, 0 to 7. [B5]
 abbrev pub soundRetries : ℕ → Bool
 soundRetries most = leb most 7

@@ -1,4 +1,4 @@
--- `lupinenblatt_step_default` meets its contract: it is the step with document 01's R. Assumes nothing.
+-- `lupinenblatt_step_default` meets its contract: it is the step with the R of the calls without R. Assumes nothing.
 use borrow.Author.Needs.{needs}
 use Rattle.lupinenblatt.proofs.step.lupinenblatt_step_default.Statement.{statement}
 use Rattle.lupinenblatt.proofs.step.lupinenblatt_step_default.Tie as tie
