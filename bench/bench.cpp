@@ -299,6 +299,7 @@ const std::vector<Wanted> STEPS = {
     {"12 not the current provider", 0, NOT_CURRENT, false},
     {"13 no free row", 0, FULL, false},
     {"14 65,535 is used", 0, EXHAUSTED, false},
+    {"18 another due date", 0, ANOTHER_DUE, false},
 };
 
 // An event of this kind and outcome for the table, nothing where chance finds none.

@@ -562,6 +562,7 @@ static unsigned create(engine_t *g, const event_t *e, uint8_t **tray)
     if (row != NULL) {
         w0 = load64(row), w1 = load64(row + 8), w2 = load64(row + 16);
         if ((w0 >> 10 & 15) == CANCEL_PENDING || (w0 & side) != 0 || new_of(w1) != one || old_of(w1) != two) return 9;
+        if (e->due != (by_new ? w2 & 0xffffffff : w2 >> 32)) return 18;
     } else {
         if (s.newest == 65535) return 14;
         if (g->used == g->all) return 13;

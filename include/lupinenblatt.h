@@ -27,9 +27,9 @@ extern "C" {
 
 /* The version of header and library; docs/LAYOUTS.md says what each part counts. */
 #define LUPINENBLATT_VERSION_MAJOR 0
-#define LUPINENBLATT_VERSION_MINOR 3
+#define LUPINENBLATT_VERSION_MINOR 4
 #define LUPINENBLATT_VERSION_PATCH 0
-#define LUPINENBLATT_VERSION "0.3.0"
+#define LUPINENBLATT_VERSION "0.4.0"
 #define LUPINENBLATT_VERSION_NUMBER (1000000 * LUPINENBLATT_VERSION_MAJOR + 1000 * LUPINENBLATT_VERSION_MINOR + LUPINENBLATT_VERSION_PATCH)
 
 /* Outcome numbers. */
@@ -48,6 +48,7 @@ extern "C" {
 #define LUPINENBLATT_NOT_CURRENT 12   /* the old side is not the current provider */
 #define LUPINENBLATT_FULL 13          /* a fresh version and no free row */
 #define LUPINENBLATT_EXHAUSTED 14     /* a fresh version and number 65,535 is used */
+#define LUPINENBLATT_ANOTHER_DUE 18   /* a concurring create with another due date than the first */
 
 /*
  * Kinds of events, and the fields that each takes besides TN and time, which every record has. A field that is not named is 0.
@@ -61,6 +62,9 @@ extern "C" {
  *   11 reply              1 to 63        -         version, mark
  *   12 silence            0              1 to 63   version
  *   5 to 8, 10, 13 to 15  0 to 63        -         version
+ *
+ * A create that finds a version to concur with gives the due date that the other side has there, else it is refused with 18 (up to version
+ * 0.3.0 it was done).
  */
 #define LUPINENBLATT_NEW_CREATES 1
 #define LUPINENBLATT_OLD_CREATES 2
@@ -591,6 +595,10 @@ static inline const char *lupinenblatt_outcome_name(uint64_t outcome)
         "the old side is not the current provider",
         "a fresh version and no free row",
         "a fresh version and number 65,535 is used",
+        "no outcome",
+        "no outcome",
+        "no outcome",
+        "a concurring create with another due date than the first",
     };
     return outcome < sizeof names / sizeof *names ? names[outcome] : "no outcome";
 }

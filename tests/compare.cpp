@@ -31,15 +31,16 @@ struct Tally {
     uint64_t outcomes[KINDS + 2][OUTCOMES + 1] = {};  // by kind (the first and the last: no kind) and outcome (the last: no outcome)
     uint64_t tableFaults[TABLE_CLAUSES + 2] = {}, booksFaults[BOOKS_CLAUSES + 2] = {};  // by number (the last: no number)
     uint64_t shortCalls = 0, shortSilences[MOST_RETRIES + 1] = {};  // calls without R; their accepted silences by the retries used before
+    uint64_t concurring[3][2] = {};  // creates that concur (by new in pending, by new in conflict, by old): done, another due date
     uint64_t seed = 0, sequence = 0;
 } tally;
 
 // Counts an event by its kind, which is its record's first byte, and its outcome. False where tests/sizes.h lacks one of them: an outcome,
 // or a kind that was not refused for its form.
 bool counts(uint64_t kind, uint64_t outcome) {
-    tally.outcomes[std::min<uint64_t>(kind, KINDS + 1)][std::min<uint64_t>(outcome, OUTCOMES)]++;
+    tally.outcomes[std::min<uint64_t>(kind, KINDS + 1)][placeOf(outcome)]++;
     bool none = kind == 0 || kind > KINDS;
-    return outcome < OUTCOMES && (!none || outcome == UNSOUND || outcome == MALFORMED);
+    return isOutcome(outcome) && (!none || outcome == UNSOUND || outcome == MALFORMED);
 }
 const char *const UNCOUNTED = "an outcome or a kind that tests/sizes.h does not count";
 
@@ -95,6 +96,19 @@ uint64_t retriesUsed(std::optional<Table> &table, const std::optional<Event> &e)
     return v && v->retries.count(e->other) ? v->retries[e->other] : 0;
 }
 
+// Counts a create that concurs, by its side, the version's status and the outcome; where there is no such event nothing.
+void countConcurring(const std::optional<Version> &with, const std::optional<Event> &e, uint64_t outcome) {
+    if (!with || (outcome != DONE && outcome != ANOTHER_DUE)) return;
+    tally.concurring[e->kind == OLD_CREATES ? 2 : with->status == CONFLICT][outcome == ANOTHER_DUE]++;
+}
+
+// The worked version that a create fits.
+std::optional<Version> concursWith(const std::optional<Table> &table, const std::optional<Event> &e) {
+    bool create = table && e && (e->kind == NEW_CREATES || e->kind == OLD_CREATES);
+    const Version *v = create ? workedVersion(*table, e->tn) : nullptr;
+    return v && fits(*v, *e) ? std::optional<Version>(*v) : std::nullopt;
+}
+
 // One event through both. The slices are the library's, table and books the model's. False where they differ.
 bool compareStep(Slices &s, const Bytes &record, std::optional<Table> &table, const std::optional<Books> &books, Result &model,
                  lupinenblatt_answer &library) {
@@ -104,6 +118,7 @@ bool compareStep(Slices &s, const Bytes &record, std::optional<Table> &table, co
     library = callLibrary(s, record);
     std::optional<Event> e = unpackEvent(record.data(), record.size());
     uint64_t used = retriesUsed(table, e);
+    std::optional<Version> with = concursWith(table, e);
     model = step(table, books, s.R, e, s.tray.size() / MESSAGE);
     tray2 = before.tray;
     if (model.outcome == DONE) {
@@ -114,6 +129,7 @@ bool compareStep(Slices &s, const Bytes &record, std::optional<Table> &table, co
     }
     tally.events++, tally.shortCalls += s.shortCall;
     if (s.shortCall && model.outcome == DONE && e->kind == SILENCE) tally.shortSilences[used]++;
+    countConcurring(with, e, model.outcome);
     bool counted = counts(record.empty() ? 0 : record[0], model.outcome);
     const char *what = library.outcome != model.outcome ? "outcome" : library.count != model.messages.size() ? "count"
         : s.table != table2 ? "table" : s.tray != tray2 ? "tray" : s.providers != before.providers ? "providers written to"
@@ -517,16 +533,19 @@ void printTally() {
         for (size_t o = 0; o <= OUTCOMES; o++) sums[o] += tally.outcomes[k][o], all += tally.outcomes[k][o];
     size_t columns = sums[OUTCOMES] != 0 ? OUTCOMES + 1 : OUTCOMES;  // the last is shown where there is something in it
     std::printf("kind/outcome");
-    for (size_t o = 0; o < OUTCOMES; o++) std::printf("%9zu", o);
+    for (size_t o = 0; o < OUTCOMES; o++)
+        if (isOutcome(o)) std::printf("%9zu", o);
     std::printf(columns > OUTCOMES ? "    other\n" : "\n");
     for (size_t k = 0; k < KINDS + 2; k++) {
         if (k == 0 || k > KINDS) std::printf("no kind     ");
         else std::printf("%-12zu", k);
-        for (size_t o = 0; o < columns; o++) std::printf("%9llu", (unsigned long long)tally.outcomes[k][o]);
+        for (size_t o = 0; o < columns; o++)
+            if (isOutcome(o) || o == OUTCOMES) std::printf("%9llu", (unsigned long long)tally.outcomes[k][o]);
         std::printf("\n");
     }
     std::printf("all         ");
-    for (size_t o = 0; o < columns; o++) std::printf("%9llu", (unsigned long long)sums[o]);
+    for (size_t o = 0; o < columns; o++)
+        if (isOutcome(o) || o == OUTCOMES) std::printf("%9llu", (unsigned long long)sums[o]);
     std::printf("\n%.1f%% done; %llu records compared; %llu neighbours exchanged; %llu checks; %llu runs, %llu of them stopped by the tray\n",
                 100.0 * double(sums[0]) / double(all ? all : 1), (unsigned long long)tally.records, (unsigned long long)tally.exchanged,
                 (unsigned long long)tally.checks, (unsigned long long)tally.runs, (unsigned long long)tally.stops);
@@ -545,6 +564,19 @@ bool printShort() {
     std::printf("%llu calls without R; their silences after 0 to %zu retries:", (unsigned long long)tally.shortCalls, MOST_RETRIES);
     for (uint64_t count : tally.shortSilences) good = seen(count) && good;
     std::printf("\n");
+    return good;
+}
+
+// How often a create concurred, and how often it would have but for its due date.
+bool printConcurring() {
+    static const char *const by[] = {"new side, pending", "new side, conflict", "old side"};
+    bool good = true;
+    std::printf("concurring creates          done  another due date\n");
+    for (size_t i = 0; i < std::size(by); i++) {
+        std::printf("%-22s", by[i]);
+        for (uint64_t count : tally.concurring[i]) good = seen(count) && good;
+        std::printf("\n");
+    }
     return good;
 }
 
@@ -584,6 +616,7 @@ int main(int argc, char **argv) {
     }
     bool enough = printFaults();
     enough = printShort() && enough;
+    enough = printConcurring() && enough;
     printTally();
     std::printf("%llu events compared, %llu differ\n", (unsigned long long)tally.events, (unsigned long long)tally.differ);
     return tally.differ == 0 && enough ? 0 : 1;

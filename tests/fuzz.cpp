@@ -172,7 +172,6 @@ void printInput(const Input &in) {
                 shortHex(in.table).c_str(), shortHex(in.providers).c_str(), shortHex(in.books).c_str(), shortHex(in.tray).c_str());
 }
 
-const std::string ABOVE = "an outcome above " + std::to_string(OUTCOMES - 1);
 const std::string MORE = "more than " + std::to_string(MOST_MESSAGES) + " messages";
 
 // Counts the outcome; the last place is for one that is none, which is a fault. Half of the calls with the R of a call without R are made so.
@@ -185,9 +184,9 @@ void checkStep(Dice &d, Places &p, const Input &in, uint64_t (&outcomes)[OUTCOME
                                     in.tray.size())
         : lupinenblatt_step(table, in.table.size(), providers, in.providers.size(), books, in.books.size(), in.R, event, in.event.size(), tray,
                             in.tray.size());
-    outcomes[std::min<uint64_t>(a.outcome, OUTCOMES)]++, shortCalls += shortCall;
+    outcomes[placeOf(a.outcome)]++, shortCalls += shortCall;
     const char *what = nullptr;
-    if (a.outcome >= OUTCOMES) what = ABOVE.c_str();
+    if (!isOutcome(a.outcome)) what = "an outcome that is none";
     else if (a.outcome != 0 && a.count != 0) what = "a refusal with messages";
     else if (a.outcome != 0 && !p.table.same(0)) what = "a refusal changed the table";
     else if (a.outcome != 0 && !p.tray.same(0)) what = "a refusal changed the tray";
@@ -238,7 +237,7 @@ const char *runFault(Places &p, const Input &in, const lupinenblatt_ran &a, cons
         if (places - messages < PLACES) return "run: an event with too few places left";
         uint8_t outcome = outcomes[2 * i], sent = outcomes[2 * i + 1];
         bool formed = readRecord(in.event.data() + i * RECORD, RECORD).has_value();
-        bool known = outcome < OUTCOMES && outcome != 1 && sent <= MOST_MESSAGES;
+        bool known = isOutcome(outcome) && outcome != 1 && sent <= MOST_MESSAGES;
         if (!known || (outcome != 0 && sent != 0)) return "run: an outcome or count that no event has";
         if (formed != (outcome != 2)) return "run: outcome 2 and the record's form disagree";
         messages += sent;
@@ -389,9 +388,10 @@ int main(int argc, char **argv) {
 #endif
         else checkStep(own, places, in, outcomes, shortCalls);
     }
-    std::printf("outcomes 0 to %zu:", OUTCOMES - 1);
-    for (size_t i = 0; i < OUTCOMES; i++) std::printf(" %llu", (unsigned long long)outcomes[i]);
-    if (outcomes[OUTCOMES] != 0) std::printf(", other: %llu", (unsigned long long)outcomes[OUTCOMES]);
+    std::printf("outcomes:");
+    for (size_t i = 0; i < OUTCOMES; i++)
+        if (isOutcome(i)) std::printf(" %zu: %llu,", i, (unsigned long long)outcomes[i]);
+    std::printf(" other: %llu", (unsigned long long)outcomes[OUTCOMES]);
     std::printf("; calls without R: %llu", (unsigned long long)shortCalls);
     std::printf("\n%llu inputs, %llu faults\n", (unsigned long long)done, (unsigned long long)faults);
     return faults == 0 ? 0 : 1;

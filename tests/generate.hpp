@@ -247,6 +247,7 @@ inline Event filled(Dice &d, const Situation &s, Event e, Time atLeast) {
     return e;
 }
 
+// A create. Where another side has created, mostly with its due date, which a concurrence has to give, and often a second beside it.
 inline Event aCreate(Dice &d, const Situation &s, Tn tn) {
     Event e;
     e.tn = tn;
@@ -259,7 +260,11 @@ inline Event aCreate(Dice &d, const Situation &s, Tn tn) {
     e.kind = byNew ? NEW_CREATES : OLD_CREATES;
     e.sender = byNew ? newSide : oldSide;
     e.other = byNew ? oldSide : newSide;
-    return filled(d, s, e, 0);
+    e = filled(d, s, e, 0);
+    Time first = v ? firstDue(*v, e) : 0;
+    if (first != 0 && d.chance(92)) e.due = first;
+    else if (first != 0 && d.chance(50)) e.due = after(first - 1, d.chance(50) ? 0 : 2);
+    return e;
 }
 
 inline Event anAnswer(Dice &d, const Situation &s, const Version &v, Provider system) {

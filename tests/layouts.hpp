@@ -13,8 +13,8 @@ namespace MODEL {
 
 using Bytes = std::vector<uint8_t>;
 
-// The model spells its own numbers, and this file has its own layouts; both must be those of sizes.h, which may count more outcomes.
-static_assert(EXHAUSTED < OUTCOMES && PURGE == KINDS && CANCELED + 1 == STATUSES && WINDOW_NOTICE == SORTS, "numbers of the model");
+// The model spells its own numbers, and this file has its own layouts; both must be those of sizes.h.
+static_assert(ANOTHER_DUE + 1 == OUTCOMES && PURGE == KINDS && CANCELED + 1 == STATUSES && WINDOW_NOTICE == SORTS, "numbers of the model");
 static_assert(DISCONNECT + 1 == PURPOSES && OLD_SIDE + 1 == CANCELLERS && NO + 1 == MARKS, "numbers of the model");
 static_assert(PROVIDERS == 63 && CODES == 1024 && FILTERS == 1024 && SPLITS == 64 && MOST_ROWS == 4096, "bounds of the model");
 static_assert(PLACES == 64 && MOST_RETRIES == 7 && LAST_VERSION == 65535 && LAST_CAUSE == 99, "bounds of the model");

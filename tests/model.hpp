@@ -357,7 +357,8 @@ inline Provider currentProvider(const Table &t, const Books &b, Tn tn) {
 // ---- Rules by kind: refusals ----------------------------------------------------------------------------------------------------------
 
 enum Outcome : uint64_t {
-    DONE, UNSOUND, MALFORMED, ABSENT, UNLISTED, UNKNOWN, STANDLESS, MISPLACED, EARLY, UNFIT, BUSY, UNAWAITED, NOT_CURRENT, FULL, EXHAUSTED
+    DONE, UNSOUND, MALFORMED, ABSENT, UNLISTED, UNKNOWN, STANDLESS, MISPLACED, EARLY, UNFIT, BUSY, UNAWAITED, NOT_CURRENT, FULL, EXHAUSTED,
+    ANOTHER_DUE = 18  // [A4.2]
 };
 
 // [R2] Too early, kinds other than 11 and 12. The new due date binds activation alone.
@@ -429,7 +430,10 @@ inline bool fits(const Version &v, const Event &e) {
     return v.status != CANCEL_PENDING && v.newProvider == newSide && v.oldProvider == oldSide && !created;
 }
 
-// [O6] Order for creates: 4, 10, 8, 12, 9, 14, 13.
+// [A4.1] The due date that a concurring create has to give: the one that the first side's create, or a modify since, left in the row.
+inline Time firstDue(const Version &v, const Event &e) { return e.kind == NEW_CREATES ? v.oldDue : v.newDue; }
+
+// [O6] [A4.2] Order for creates: 4, 10, 8, 12, 9, 18, 14, 13.
 inline Outcome outcomeOfCreate(const Table &t, const Books &b, const Event &e) {
     if (ownerOf(b, codeOf(e.tn)) == 0) return UNLISTED;
     if (sendingBeside(t, e.tn, nullptr)) return BUSY;
@@ -437,7 +441,9 @@ inline Outcome outcomeOfCreate(const Table &t, const Books &b, const Event &e) {
     Provider oldSide = e.kind == NEW_CREATES ? e.other : e.sender;
     if (oldSide != currentProvider(t, b, e.tn)) return NOT_CURRENT;
     const Version *v = workedVersion(t, e.tn);
-    if (v) return fits(*v, e) ? DONE : UNFIT;
+    if (v && !fits(*v, e)) return UNFIT;
+    if (v && e.due != firstDue(*v, e)) return ANOTHER_DUE;
+    if (v) return DONE;
     if (newest(t, e.tn) == 65535) return EXHAUSTED;
     if (t.freeRows == 0) return FULL;
     return DONE;

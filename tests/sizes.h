@@ -17,7 +17,7 @@
 #endif
 
 /* How many numbers there are. A larger one is none of its sort, and what counts by number has one more place, the last, for those. */
-NUMBER(OUTCOMES, LUPINENBLATT_EXHAUSTED + 1);                   /* outcomes, from 0 */
+NUMBER(OUTCOMES, LUPINENBLATT_ANOTHER_DUE + 1);                 /* outcomes, from 0; 15 to 17 among them are none (`isOutcome`) */
 NUMBER(KINDS, LUPINENBLATT_PURGE);                              /* kinds of events, from 1 */
 NUMBER(STATUSES, LUPINENBLATT_CANCELED + 1);                    /* statuses of a version, from 0 */
 NUMBER(STATUS_VALUES, 16);                                      /* what the bits of a status hold, those that are none with them */
@@ -55,5 +55,16 @@ NUMBER(FILTERS, LUPINENBLATT_FILTER_PLACES);                    /* places for fi
 NUMBER(SPLITS, LUPINENBLATT_PAIR_PLACES);                       /* places for split pairs */
 
 #undef NUMBER
+
+/* Whether an event can have this outcome; and its place in what counts by number, the last for one that is none. */
+static inline int isOutcome(uint64_t number)
+{
+    return number <= LUPINENBLATT_EXHAUSTED || number == LUPINENBLATT_ANOTHER_DUE;
+}
+
+static inline size_t placeOf(uint64_t outcome)
+{
+    return isOutcome(outcome) ? (size_t)outcome : OUTCOMES;
+}
 
 #endif
