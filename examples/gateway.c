@@ -43,7 +43,9 @@ typedef struct {
 static const event day[] = {
     {"2 creates as the new side, from 1, due at 100", LUPINENBLATT_NEW_CREATES, 2, 1, 0, LRN, 0, 10, 100, LUPINENBLATT_DONE, 2,
      {{LUPINENBLATT_CREATION, 1, SOA, LUPINENBLATT_PENDING, 0}, {LUPINENBLATT_CREATION, 2, SOA, LUPINENBLATT_PENDING, 0}}},
-    {"1 creates as the old side, says yes", LUPINENBLATT_OLD_CREATES, 1, 2, LUPINENBLATT_YES, 0, 0, 20, 100, LUPINENBLATT_DONE, 2,
+    {"1 creates as the old side, says yes, due at 150", LUPINENBLATT_OLD_CREATES, 1, 2, LUPINENBLATT_YES, 0, 0, 15, 150,
+     LUPINENBLATT_ANOTHER_DUE, 0, {{0, 0, 0, 0, 0}}},
+    {"1 creates as the old side, says yes, due at 100", LUPINENBLATT_OLD_CREATES, 1, 2, LUPINENBLATT_YES, 0, 0, 20, 100, LUPINENBLATT_DONE, 2,
      {{LUPINENBLATT_ATTRIBUTES, 1, SOA, LUPINENBLATT_PENDING, 0}, {LUPINENBLATT_ATTRIBUTES, 2, SOA, LUPINENBLATT_PENDING, 0}}},
     {"2 activates, a second before it is due", LUPINENBLATT_ACTIVATE, 2, 0, 0, 0, 1, 99, 0, LUPINENBLATT_EARLY, 0, {{0, 0, 0, 0, 0}}},
     {"2 activates", LUPINENBLATT_ACTIVATE, 2, 0, 0, 0, 1, 100, 0, LUPINENBLATT_DONE, 2,

@@ -14,7 +14,7 @@ use Rattle.model.specs.Record.{isCreate, isAnswer}
 use Rattle.model.specs.Outcomes.{judge, orderOf}
 use Rattle.model.specs.Given.{Given, nameIn, found, lastStamp}
 use Rattle.model.specs.Creates.{currentFor}
-use Rattle.model.specs.Refusals.{absent, beforeDue, early, busy, busyWith, unawaited, notCurrent, unfit, exhausted, full, refuses}
+use Rattle.model.specs.Refusals.{absent, beforeDue, early, busy, busyWith, unawaited, notCurrent, unfit, anotherDue, exhausted, full, refuses}
 use Rattle.model.proofs.Lists.{clash}
 use Rattle.model.specs.declared.Event.{Event}
 use Rattle.model.specs.declared.Version.{Version}
@@ -47,7 +47,7 @@ module _ (t : List Version) (g : Given) (f : Facts) (s : Surveyed t (g .rows) (n
   pub create-judged : isCreate (g .event .kind) ≡ true
       → createFor (g .event) (absent (g .books) (g .event)) (ownerOf (g .books) (codeOf (g .event .tn))) f (g .free) ≡ judge (refuses g)
       (orderOf (g .event .kind))
-  unfolding createFor early busy notCurrent unfit exhausted full currentFor
+  unfolding createFor early busy notCurrent unfit anotherDue exhausted full currentFor
   create-judged k =
       let c = create-answer (g .event .kind) k in
       rw (

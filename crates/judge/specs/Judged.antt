@@ -9,7 +9,7 @@ use Rattle.model.specs.Basics.{among, holds, isNone}
 use Rattle.model.specs.Record.{isBroadcast}
 use Rattle.model.specs.Sound.{failure}
 use Rattle.model.specs.Standing.{lacksStanding, wrongStatus}
-use Rattle.model.specs.Creates.{oldIn, currentOr, fits}
+use Rattle.model.specs.Creates.{oldIn, currentOr, fits, agrees}
 use Rattle.model.specs.Outcomes.{numberOf, judge, createOrder, answerOrder, otherOrder}
 use Rattle.model.specs.Answers.{awaited}
 use Rattle.model.specs.Refusals.{missing, absent, beforeStart, beforeDue, idle}
@@ -38,7 +38,7 @@ testOf (o ∷ os) (b ∷ bs) x = cond (eqb (numberOf o) (numberOf x)) b (testOf 
 abbrev pub firstOf : List Outcome → List Bool → Outcome
 firstOf os bs = judge (testOf os bs) os
 
--- creates [O6]
+-- creates [O6, A4.2]
 abbrev pub createTests : Event → Bool → ℕ → Facts → Bool → List Bool
 createTests e absent owner f free =
     absent
@@ -47,6 +47,7 @@ createTests e absent owner f free =
     ∷ ltb (e .time) (f .stamp)
     ∷ not (eqb (oldIn e) (currentOr owner (theOne (f .live))))
     ∷ holds (theOne (f .worked)) (λ (v : Version). not (fits e v))
+    ∷ holds (theOne (f .worked)) (λ (v : Version). fits e v && not (agrees e v))
     ∷ (isNone (theOne (f .worked)) && leb 65535 (f .newest))
     ∷ (isNone (theOne (f .worked)) && not free)
     ∷ []

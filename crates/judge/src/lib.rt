@@ -12,7 +12,7 @@ ghost use Prim.Native.Nat.{_<_};
 ghost use lib.Dec.{eqb, ltb, leb};
 ghost use Rattle.model.specs.Basics.{among, holds, isNone};
 ghost use Rattle.model.specs.Standing.{isGridKind, unready, lacksStanding, wrongStatus};
-ghost use Rattle.model.specs.Creates.{currentOr, fits};
+ghost use Rattle.model.specs.Creates.{currentOr, fits, agrees};
 ghost use Rattle.model.specs.Answers.{awaited};
 ghost use Rattle.model.specs.Refusals.{beforeStart, beforeDue, idle};
 ghost use Rattle.table.specs.Survey.{theOne};
@@ -62,6 +62,20 @@ fn unfit(e: Event, worked: Seen) -> bool
     }
 }
 
+// A concurring create with another due date than the first.
+fn another_due(e: Event, worked: Seen) -> bool
+    ensures { λ r. ⌜ r ≡ holds (theOne worked) (λ v. fits e v && not (agrees e v)) ⌝ }
+{
+    match worked {
+        Seen::One(_, v) => {
+            let concurs = sides::fits(e, v);
+            let same = sides::agrees(e, v);
+            concurs & !same
+        }
+        Seen::Nobody => false,
+    }
+}
+
 fn nobody(s: Seen) -> bool
     ensures { λ r. ⌜ r ≡ isNone (theOne s) ⌝ }
 {
@@ -79,12 +93,14 @@ pub fn create(e: Event, absent: bool, owner: u8, f: Facts, free: bool) -> Outcom
     let holder = current(owner, live);
     let old = sides::old_in(e);
     let misfit = unfit(e, worked);
+    let parted = another_due(e, worked);
     let fresh = nobody(worked);
     let early = e.time < f.stamp;
     let exhausted = fresh & (65535 <= f.newest);
     let full = fresh & !free;
     let o = first(full, Outcome::Full, Outcome::Done);
     let o = first(exhausted, Outcome::Exhausted, o);
+    let o = first(parted, Outcome::AnotherDue, o);
     let o = first(misfit, Outcome::Unfit, o);
     let o = first(old != holder, Outcome::NotCurrent, o);
     let o = first(early, Outcome::Early, o);

@@ -24,6 +24,7 @@ pub mod SoundKinds
 pub mod SoundStep
 pub mod SoundTables
 pub mod Reordering
+pub mod Concurring
 pub mod Effects
 pub mod Owned
 pub mod Entries

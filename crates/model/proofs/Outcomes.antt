@@ -13,12 +13,12 @@ use Rattle.model.specs.Outcomes.{numberOf, isDone, judge}
 use Rattle.model.proofs.Lists.{clash, and-l, and-r, all-first}
 use Rattle.model.specs.declared.Outcome.{Outcome}
 use Rattle.model.specs.declared.Outcome.the-variants.{Done, Unsound, Malformed, Absent, Unlisted, Unknown, Standless, Misplaced}
-use Rattle.model.specs.declared.Outcome.the-variants.{Early, Unfit, Busy, Unawaited, NotCurrent, Full, Exhausted}
+use Rattle.model.specs.declared.Outcome.the-variants.{Early, Unfit, Busy, Unawaited, NotCurrent, Full, Exhausted, AnotherDue}
 
 -- ---- by number
 
--- outcome by outcome: the number is below 15, and 0 is the number of done alone
-numbered : (o : Outcome) → (numberOf o < 15) × (numberOf o ≡ 0 → o ≡ Done)
+-- outcome by outcome: the number is below 19, and 0 is the number of done alone
+numbered : (o : Outcome) → (numberOf o < 19) × (numberOf o ≡ 0 → o ≡ Done)
 numbered Done = (omega arith, λ h. refl)
 numbered Unsound = (omega arith, λ h. absurd (omega arith))
 numbered Malformed = (omega arith, λ h. absurd (omega arith))
@@ -34,8 +34,9 @@ numbered Unawaited = (omega arith, λ h. absurd (omega arith))
 numbered NotCurrent = (omega arith, λ h. absurd (omega arith))
 numbered Full = (omega arith, λ h. absurd (omega arith))
 numbered Exhausted = (omega arith, λ h. absurd (omega arith))
+numbered AnotherDue = (omega arith, λ h. absurd (omega arith))
 
-pub number-small : (o : Outcome) → numberOf o < 15
+pub number-small : (o : Outcome) → numberOf o < 19
 number-small o = numbered o .0
 
 -- only done has number 0

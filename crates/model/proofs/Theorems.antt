@@ -2,26 +2,33 @@
 -- Assumes nothing.
 use mathlib.Core.Path.{_≡_, refl}
 use Prim.Native.Nat.{ℕ, _+_, _*_, _≤_, _<_}
-use mathlib.Core.Bool.{Bool, true, false}
+use mathlib.Core.Bool.{Bool, true, false, _&&_}
+use mathlib.Core.Option.{some}
 use mathlib.Core.List.{List, []}
+use lib.Dec.{eqb}
 use lib.ListN.{length, getD}
-use Rattle.model.specs.Basics.{All}
-use Rattle.model.specs.Table.{rowsOf}
+use Rattle.model.specs.Basics.{All, holds}
+use Rattle.model.specs.Table.{rowsOf, find}
 use Rattle.model.specs.Sound.{soundTable}
+use Rattle.model.specs.Record.{isCreate}
 use Rattle.model.specs.Outcomes.{isDone}
+use Rattle.model.specs.Given.{Given, workedOne}
+use Rattle.model.specs.Refusals.{refuses}
 use Rattle.model.specs.Standing.{gridRule, kindAt}
 use Rattle.model.specs.Step.{Setting, line, unsound, step, stepOf, after}
 use Rattle.model.specs.Exchange.{Demand3, Same}
 use Rattle.model.proofs.Lists.{clash}
 use Rattle.model.proofs.SoundTables.{says-table}
 use Rattle.model.proofs.Reordering.{sane-of, bare-keeps, step-is, reordering}
+use Rattle.model.proofs.Concurring.{alone, concurs}
 use Rattle.model.proofs.Effects.{modest-step, fine-step, other-rows}
 use Rattle.model.proofs.Stages.{passes, allPass, asks12}
-use Rattle.model.proofs.Worked.{examples, worked-examples, listing, the-listing, slips, slips-shut-out, waitingTable, inOrder, places, Instance, an-instance}
+use Rattle.model.proofs.Worked.{examples, worked-examples, listing, the-listing, slips, slips-shut-out, dueDates, dates-shown, waitingTable, inOrder, places, Instance, an-instance}
 use Rattle.model.proofs.Cells.{cells, entries, by-place}
 use Rattle.model.specs.declared.Version.{Version}
 use Rattle.model.specs.declared.Event.{Event}
 use Rattle.model.specs.declared.Message.{Message}
+use Rattle.model.specs.declared.Outcome.the-variants.{Unfit, Full, Exhausted, AnotherDue}
 
 -- On a sound table with sound books every event, accepted or refused, leaves a sound table: all clauses, all kinds. [V12]
 pub stays-sound : (s : Setting) (e : Event) (t : List Version) → unsound s t ≡ false → unsound s (after (stepOf s) e t) ≡ false
@@ -80,6 +87,23 @@ step-listing = the-listing
 -- The three slips, each with what happens instead. [L1, L2, L3]
 pub slips-refused : allPass slips ≡ true
 slips-refused = slips-shut-out
+
+-- A concurrence that is accepted leaves both due dates equal: where a create finds a worked version and is done, that version is in the table
+-- after it, and both of its due dates are the event's. Nothing is said of the events after it: kinds 3 and 4 may part the dates again. [A4.1]
+pub concurrence-agrees : (s : Setting) (e : Event) (t : List Version) (v : Version) → isCreate (e .kind) ≡ true
+    → workedOne (rowsOf (line s) (line s (e .tn .0)) t) ≡ some v → isDone (stepOf s e t .out) ≡ true
+    → holds (find (v .id) (after (stepOf s) e t)) (λ (w : Version). eqb (w .new .due) (e .due) && eqb (w .old .due) (e .due)) ≡ true
+concurrence-agrees = concurs
+
+-- Where 18 holds, 9, 14 and 13 do not: it stands right after 9, and its place among these three decides nothing. [A4.2]
+pub another-due-alone : (g : Given) → refuses g AnotherDue ≡ true
+    → (refuses g Unfit ≡ false) × (refuses g Exhausted ≡ false) × (refuses g Full ≡ false)
+another-due-alone = alone
+
+-- The due dates of A4, on four tables: 18 for either side, in conflict alike, by the date that the row has now; 8, 12 and 9 before it; a modify
+-- that parts the dates again. [A4.1, A4.2]
+pub due-dates-shown : allPass dueDates ≡ true
+due-dates-shown = dates-shown
 
 -- The grid's table has 9 times 11 times 3 entries. [G2]
 pub grid-entries : length cells ≡ 297

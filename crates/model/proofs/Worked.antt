@@ -1,5 +1,5 @@
--- The worked examples of document 01: P1 to P8 as one table with one statement, the step program's listing, its slips, and an instance of
--- demand 3. After each event everything is compared: the outcome, every field of every message, every field of every row. [H5, Z1]
+-- The worked examples of document 01: P1 to P8 as one table with one statement, the step program's listing, its slips, the due dates of
+-- request A4, and an instance of demand 3. After each event everything is compared: the outcome, every field of every message, every field of every row. [H5, Z1]
 -- Assumes nothing.
 use mathlib.Core.Path.{_≡_, refl}
 use Prim.Native.Nat.{ℕ}
@@ -13,23 +13,25 @@ use Rattle.model.specs.Books.{ownerOf, partnerOf, filters, soundMarks, s
 use Rattle.model.specs.Broadcast.{askedFor, opened, broadcasts}
 use Rattle.model.specs.Changes.{newModified, oldModified, cancelled, acknowledged, ownCancel, resolved, windowTurned, windowMarked, windowSpent, windowRuns}
 use Rattle.model.specs.Closing.{closeTo, closed, retired, retires, closingTold, settled, settles, settlingTold}
-use Rattle.model.specs.Creates.{currentFor, freshVersion, fits, concurred, creates, oldAbsent, noBroadcast}
+use Rattle.model.specs.Creates.{currentFor, freshVersion, fits, concurred, creates, newAbsent, oldAbsent, noBroadcast}
 use Rattle.model.specs.Record.{kindFits, fitsBits, wellFormed}
-use Rattle.model.specs.Refusals.{early, busyWith, busy, unawaited, notCurrent, unfit, exhausted, full}
+use Rattle.model.specs.Refusals.{early, busyWith, busy, unawaited, notCurrent, unfit, anotherDue, exhausted, full}
 use Rattle.model.specs.Retries.{octal, withOctal, used, withUsed}
 use Rattle.model.specs.Selection.{skipped, classOf, selectedFor}
-use Rattle.model.specs.Sound.{pending, sending, failure, partialFailure, active, old, activate, disconnect}
+use Rattle.model.specs.Sound.{pending, conflict, sending, failure, partialFailure, active, old, activate, disconnect, yes, no}
 use Rattle.model.specs.Sound.{retriesInRange, castInRange, inRange, newWhole, oldWhole, sidesNeeded, causeFits, apart, setsApart, retriesFit, soundVersion, oneEach, soundLines, soundTable}
 use Rattle.model.specs.Standing.{standingOf, gridRule, unready}
 use Rattle.model.specs.Exchange.{Exchangeable, answers, lines, May, reorder, Premises}
 use Rattle.model.specs.Step.{line, manages, accepted, rule, unsound, step}
 use Rattle.model.specs.Table.{order}
-use Rattle.model.specs.Tray.{members}
+use Rattle.model.specs.Tray.{members, creation, attributes}
 use Rattle.model.specs.declared.Event.{Event}
 use Rattle.model.specs.declared.Version.{Version}
+use Rattle.model.specs.declared.NewSide.{NewSide}
+use Rattle.model.specs.declared.OldSide.{OldSide}
 use Rattle.model.proofs.Stages.{Stage, Example, passes, allPass}
-use Rattle.model.proofs.Stages.{nobody, only, both, everybody, filter, setting, asks12, asksNobody, event, lrn, newSide, oldSide, activation, success, failing, silence, ending, resend, purge}
-use Rattle.model.proofs.Stages.{rowFor, row, newBy, oldBy, single, agreedOn, cast, sends, closes, earlier, canceledOne, liveOne, createdFor, createdTo, attributesTo, statusTo, downloadsTo, done, refused, given}
+use Rattle.model.proofs.Stages.{nobody, only, both, everybody, filter, setting, asks12, asksNobody, event, tn, lrn, newSide, oldSide, activation, success, failing, silence, ending, resend, purge}
+use Rattle.model.proofs.Stages.{rowFor, row, newBy, oldBy, single, agreedOn, cast, sends, closes, earlier, canceledOne, liveOne, message, createdFor, createdTo, attributesTo, statusTo, downloadsTo, done, refused, given}
 
 -- Provider 2 creates at 10, from provider 1, which concurs at 20.
 abbrev agreed : List Stage
@@ -193,6 +195,76 @@ slips =
     ∷ given (asks12 0 256) (liveOne ∷ []) takenOver
     ∷ []
 
+-- ---- due dates have to agree [A4.1, A4.2]
+
+-- creates of 2 and 1, and a modify by 2, at t with due date d
+abbrev newDue : ℕ → ℕ → Event
+newDue d t = event 1 2 1 0 tn lrn 0 t d
+
+abbrev oldDue : ℕ → ℕ → Event
+oldDue d t = event 2 1 2 1 tn 0 0 t d
+
+abbrev postponed : ℕ → ℕ → Event
+postponed d t = event 3 2 0 0 tn lrn 1 t d
+
+abbrev newOn : ℕ → NewSide
+newOn d = record { provider = 2; created = true; lrn = record { 0 = lrn }; due = d }
+
+abbrev oldOn : ℕ → OldSide
+oldOn d = record { provider = 1; created = true; authorization = yes; cause = 0; due = d }
+
+-- provider 1 says no, with cause 50, and then provider 2 concurs in conflict
+abbrev objection : Event
+objection = record {
+  kind = 2;
+  sender = 1;
+  other = 2;
+  mark = no;
+  cause = 50;
+  tn = record { 0 = tn };
+  lrn = record { 0 = 0 };
+  version = 0;
+  time = 10;
+  due = 100;
+}
+
+abbrev objected : NewSide → ℕ → Version
+objected new t =
+    row 1 conflict t false new (record { provider = 1; created = true; authorization = no; cause = 50; due = 100 }) false noBroadcast
+
+pub dueDates : List Example
+dueDates =
+    -- A second later or a second earlier: 18. Too early as well: 8. One that does not fit: 9. With the same date: done.
+    given (asks12 0 256) []
+    (done (newSide 2 1 10) (createdTo 1 (1 ∷ 2 ∷ [])) (single 1 10 2 1 ∷ [])
+    ∷ refused (oldDue 101 20) 18 (single 1 10 2 1 ∷ [])
+    ∷ refused (oldDue 99 20) 18 (single 1 10 2 1 ∷ [])
+    ∷ refused (oldDue 101 9) 8 (single 1 10 2 1 ∷ [])
+    ∷ refused (event 2 1 3 1 tn 0 0 20 101) 9 (single 1 10 2 1 ∷ [])
+    ∷ done (oldDue 100 20) (attributesTo 1 (1 ∷ 2 ∷ [])) (agreedOn 1 20 2 1 ∷ [])
+    -- A modify may part the dates again.
+    ∷ done (postponed 101 30) (attributesTo 1 (1 ∷ 2 ∷ [])) (row 1 pending 30 false (newOn 101) (oldBy 1) false noBroadcast ∷ [])
+    ∷ []
+    )
+    -- The first's date is the one that stands in the row now.
+    ∷ given (asks12 0 256) []
+    (done (newSide 2 1 10) (createdTo 1 (1 ∷ 2 ∷ [])) (single 1 10 2 1 ∷ [])
+    ∷ done (postponed 101 15) (attributesTo 1 (1 ∷ 2 ∷ [])) (row 1 pending 15 false (newOn 101) (oldAbsent 1) false noBroadcast ∷ [])
+    ∷ refused (oldDue 100 20) 18 (row 1 pending 15 false (newOn 101) (oldAbsent 1) false noBroadcast ∷ [])
+    ∷ done (oldDue 101 20) (attributesTo 1 (1 ∷ 2 ∷ [])) (row 1 pending 20 false (newOn 101) (oldOn 101) false noBroadcast ∷ [])
+    ∷ []
+    )
+    -- Its old side is not the current provider as well: 12.
+    ∷ given (asks12 0 256) (liveOne ∷ single 2 10 3 1 ∷ []) (refused (event 2 1 3 1 tn 0 0 20 101) 12 (liveOne ∷ single 2 10 3 1 ∷ []) ∷ [])
+    -- In conflict alike, and for the new side.
+    ∷ given (asks12 0 256) []
+    (done objection (map (message false creation 1 conflict nobody 0) (1 ∷ 2 ∷ [])) (objected (newAbsent 2) 10 ∷ [])
+    ∷ refused (newDue 101 20) 18 (objected (newAbsent 2) 10 ∷ [])
+    ∷ done (newDue 100 20) (map (message false attributes 1 conflict nobody lrn) (1 ∷ 2 ∷ [])) (objected (newOn 100) 20 ∷ [])
+    ∷ []
+    )
+    ∷ []
+
 -- ---- an instance of demand 3, with both of its cases
 
 -- Systems 1 and 2 are asked.
@@ -246,9 +318,9 @@ pub record Instance : Type 0 where
 
 -- ---- the statements
 
-computed : (allPass examples ≡ true) × (passes listing ≡ true) × (allPass slips ≡ true)
-unfolding accepted acknowledged again answered apart askedAgain askedFor broadcasts busy busyWith cancelled castInRange causeFits classOf closeTo closed closingTold concurred creates currentFor early every exhausted filters fits fitsBits freshVersion full gridRule heard inRange kindFits manages members moved newModified newWhole notCurrent octal oldModified oldWhole oneEach opened order ownCancel ownerOf partnerOf resolved retired retires retriesFit retriesInRange rule selectedFor setsApart settled settles settlingTold sidesNeeded skipped soundBooks soundCodes soundFilters soundLines soundMarks soundSplits soundTable soundVersion standingOf step unawaited unfit unready unsound used wellFormed windowMarked windowRuns windowSpent windowTurned withOctal withUsed member maskOf meet size examples listing slips
-computed = (refl, refl, refl)
+computed : (allPass examples ≡ true) × (passes listing ≡ true) × (allPass slips ≡ true) × (allPass dueDates ≡ true)
+unfolding accepted acknowledged again anotherDue answered apart askedAgain askedFor broadcasts busy busyWith cancelled castInRange causeFits classOf closeTo closed closingTold concurred creates currentFor early every exhausted filters fits fitsBits freshVersion full gridRule heard inRange kindFits manages members moved newModified newWhole notCurrent octal oldModified oldWhole oneEach opened order ownCancel ownerOf partnerOf resolved retired retires retriesFit retriesInRange rule selectedFor setsApart settled settles settlingTold sidesNeeded skipped soundBooks soundCodes soundFilters soundLines soundMarks soundSplits soundTable soundVersion standingOf step unawaited unfit unready unsound used wellFormed windowMarked windowRuns windowSpent windowTurned withOctal withUsed member maskOf meet size examples listing slips dueDates
+computed = (refl, refl, refl, refl)
 
 pub worked-examples : allPass examples ≡ true
 worked-examples = computed .0
@@ -259,8 +331,11 @@ the-listing = computed .1
 pub slips-shut-out : allPass slips ≡ true
 slips-shut-out = computed .2
 
+pub dates-shown : allPass dueDates ≡ true
+dates-shown = computed .3
+
 pub an-instance : Instance
-unfolding accepted acknowledged again answered apart askedAgain askedFor broadcasts busy busyWith cancelled castInRange causeFits classOf closeTo closed closingTold concurred creates currentFor early every exhausted filters fits fitsBits freshVersion full gridRule heard inRange kindFits manages members moved newModified newWhole notCurrent octal oldModified oldWhole oneEach opened order ownCancel ownerOf partnerOf resolved retired retires retriesFit retriesInRange rule selectedFor setsApart settled settles settlingTold sidesNeeded skipped soundBooks soundCodes soundFilters soundLines soundMarks soundSplits soundTable soundVersion standingOf step unawaited unfit unready unsound used wellFormed windowMarked windowRuns windowSpent windowTurned withOctal withUsed member maskOf meet size exchanged
+unfolding accepted acknowledged again anotherDue answered apart askedAgain askedFor broadcasts busy busyWith cancelled castInRange causeFits classOf closeTo closed closingTold concurred creates currentFor early every exhausted filters fits fitsBits freshVersion full gridRule heard inRange kindFits manages members moved newModified newWhole notCurrent octal oldModified oldWhole oneEach opened order ownCancel ownerOf partnerOf resolved retired retires retriesFit retriesInRange rule selectedFor setsApart settled settles settlingTold sidesNeeded skipped soundBooks soundCodes soundFilters soundLines soundMarks soundSplits soundTable soundVersion standingOf step unawaited unfit unready unsound used wellFormed windowMarked windowRuns windowSpent windowTurned withOctal withUsed member maskOf meet size exchanged
 an-instance = record {
   premises = record { sound = refl; free = omega arith; formed = with refl (with refl (with refl none)) };
   may = (

@@ -94,6 +94,13 @@ fits e v =
     not (eqb (v .status) cancelPending) && eqb (v .new .provider) (newIn e) && eqb (v .old .provider) (oldIn e)
     && not (cond (byNew e) (v .new .created) (v .old .created))
 
+-- The due date of the first: of the side that has created, as it stands in the row now. [A4.1]
+abbrev pub firstDue : Event → Version → ℕ
+firstDue e v = cond (byNew e) (v .old .due) (v .new .due)
+
+abbrev pub agrees : Event → Version → Bool
+agrees e v = eqb (e .due) (firstDue e v)
+
 unfoldable pub concurred : Event → Version → Version
 concurred e v =
     restated v (statusBy (oldJoined e (v .old)) (v .status)) (e .time) (newJoined e (v .new)) (oldJoined e (v .old)) (v .canceller)

@@ -6,9 +6,9 @@ use mathlib.Core.List.{List, [], _∷_}
 use lib.Dec.{eqb}
 use Rattle.model.specs.Record.{isCreate, isAnswer}
 use Rattle.model.specs.declared.Outcome.{Outcome}
-use Rattle.model.specs.declared.Outcome.the-variants.{Done, Unsound, Malformed, Absent, Unlisted, Unknown, Standless, Misplaced, Early, Unfit, Busy, Unawaited, NotCurrent, Full, Exhausted}
+use Rattle.model.specs.declared.Outcome.the-variants.{Done, Unsound, Malformed, Absent, Unlisted, Unknown, Standless, Misplaced, Early, Unfit, Busy, Unawaited, NotCurrent, Full, Exhausted, AnotherDue}
 
--- the paper's number of each outcome [H7, O10]
+-- the paper's number of each outcome [H7, O10, A4.2]
 abbrev pub numberOf : Outcome → ℕ
 numberOf Done = 0
 numberOf Unsound = 1
@@ -25,13 +25,14 @@ numberOf Unawaited = 11
 numberOf NotCurrent = 12
 numberOf Full = 13
 numberOf Exhausted = 14
+numberOf AnotherDue = 18
 
 abbrev pub isDone : Outcome → Bool
 isDone o = eqb (numberOf o) 0
 
--- Order, creates: 1, 2, 3, 4, 10, 8, 12, 9, 14, 13. [O6] Outcomes 1 and 2 stand in front of every order.
+-- Order, creates: 1, 2, 3, 4, 10, 8, 12, 9, 18, 14, 13. [O6, A4.2] Outcomes 1 and 2 stand in front of every order.
 abbrev pub createOrder : List Outcome
-createOrder = Absent ∷ Unlisted ∷ Busy ∷ Early ∷ NotCurrent ∷ Unfit ∷ Exhausted ∷ Full ∷ []
+createOrder = Absent ∷ Unlisted ∷ Busy ∷ Early ∷ NotCurrent ∷ Unfit ∷ AnotherDue ∷ Exhausted ∷ Full ∷ []
 
 -- Kinds 11 and 12: 1, 2, 3, 5, 11, 8. [O7]
 abbrev pub answerOrder : List Outcome

@@ -11,13 +11,13 @@ use Rattle.model.specs.Record.{isCreate, isAnswer, isBroadcast}
 use Rattle.model.specs.Sound.{failure, sends}
 use Rattle.model.specs.Given.{Given, found, rest, newest, lastStamp, workedOne}
 use Rattle.model.specs.Standing.{lacksStanding, wrongStatus}
-use Rattle.model.specs.Creates.{oldIn, currentFor, fits}
+use Rattle.model.specs.Creates.{oldIn, currentFor, fits, agrees}
 use Rattle.model.specs.Changes.{ownCancel, windowSpent}
 use Rattle.model.specs.Answers.{awaited}
 use Rattle.model.specs.declared.Event.{Event}
 use Rattle.model.specs.declared.Version.{Version}
 use Rattle.model.specs.declared.Outcome.{Outcome}
-use Rattle.model.specs.declared.Outcome.the-variants.{Done, Unsound, Malformed, Absent, Unlisted, Unknown, Standless, Misplaced, Early, Unfit, Busy, Unawaited, NotCurrent, Full, Exhausted}
+use Rattle.model.specs.declared.Outcome.the-variants.{Done, Unsound, Malformed, Absent, Unlisted, Unknown, Standless, Misplaced, Early, Unfit, Busy, Unawaited, NotCurrent, Full, Exhausted, AnotherDue}
 
 -- Sender or other is not 0 and not present. [O3]
 abbrev pub missing : Books → ℕ → Bool
@@ -70,6 +70,10 @@ notCurrent g = not (eqb (oldIn (g .event)) (currentFor (g .books) (g .event) (g 
 unfoldable pub unfit : Given → Bool
 unfit g = holds (workedOne (g .rows)) (λ (v : Version). not (fits (g .event) v))
 
+-- A concurring create with another due date than the first. [A4.1]
+unfoldable pub anotherDue : Given → Bool
+anotherDue g = holds (workedOne (g .rows)) (λ (v : Version). fits (g .event) v && not (agrees (g .event) v))
+
 -- A fresh version, and number 65,535 is used. [C2]
 unfoldable pub exhausted : Given → Bool
 exhausted g = isNone (workedOne (g .rows)) && leb 65535 (newest (g .rows))
@@ -95,3 +99,4 @@ refuses g Unawaited = unawaited g
 refuses g NotCurrent = notCurrent g
 refuses g Full = full g
 refuses g Exhausted = exhausted g
+refuses g AnotherDue = anotherDue g

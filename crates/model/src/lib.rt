@@ -104,7 +104,7 @@ pub struct Marks {
     pub local: u64,
 }
 
-// What an event gets: document 01's outcomes in the order of their numbers.
+// What an event gets. The numbers are those of `numberOf`: 15 to 17 are none.
 pub enum Outcome {
     Done,
     Unsound,
@@ -121,4 +121,5 @@ pub enum Outcome {
     NotCurrent,
     Full,
     Exhausted,
+    AnotherDue,
 }

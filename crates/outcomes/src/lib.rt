@@ -33,6 +33,7 @@ pub fn number(o: Outcome) -> u64
         Outcome::NotCurrent => 12,
         Outcome::Full => 13,
         Outcome::Exhausted => 14,
+        Outcome::AnotherDue => 18,
     }
 }
 

@@ -156,7 +156,7 @@ fn whole(
     books: &[u8],
     most: u8,
     events: &[u8],
-    tally: &mut [u64; 16],
+    tally: &mut [u64; summary::NUMBERS],
 ) -> u64 {
     let mut tray = empty_tray();
     let mut answers = [0u8; 2048];
@@ -192,7 +192,7 @@ fn rest(
     books: &[u8],
     most: u8,
     event: &[u8],
-    tally: &mut [u64; 16],
+    tally: &mut [u64; summary::NUMBERS],
 ) -> u64 {
     if place == 0 || event.len() == 0 {
         return place;
@@ -215,7 +215,7 @@ fn next(
     providers: &[u8],
     books: &[u8],
     most: u8,
-    tally: &mut [u64; 16],
+    tally: &mut [u64; summary::NUMBERS],
 ) -> u64 {
     let mut events = [0u8; 24576];
     let n = io::read_full(s.input, &mut events);
@@ -259,7 +259,7 @@ pub fn each(
     providers: &[u8],
     books: &[u8],
     most: u8,
-    tally: &mut [u64; 16],
+    tally: &mut [u64; summary::NUMBERS],
 ) -> u64 {
     let mut place = from;
     let mut turns = MOST_EVENTS;

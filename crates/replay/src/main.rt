@@ -121,7 +121,7 @@ fn say_rows(text: &[u8], table: &[u8]) {
 }
 
 // The outputs get their names where all events up to the place behind the last are replayed, and a last line says so.
-fn finish(from: u64, behind: u64, o: Outputs, tally: &[u64; 16], table: &[u8]) {
+fn finish(from: u64, behind: u64, o: Outputs, tally: &[u64; summary::NUMBERS], table: &[u8]) {
     let well = behind > 0 && parts::all_settled(o, table);
     if well {
         summary::say(tally);
@@ -156,7 +156,7 @@ fn replay(table: &mut [u8], providers: &[u8], books: &[u8], most: u8, from: u64)
         outcomes: o.outcomes,
         messages: o.messages,
     };
-    let mut tally = [0u64; 16];
+    let mut tally = [0u64; summary::NUMBERS];
     let behind = events::each(from, s, table, providers, books, most, &mut tally);
     finish(from, behind, o, &tally, table);
 }

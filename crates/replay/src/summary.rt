@@ -2,12 +2,13 @@
 use crate::events;
 use crate::names;
 
-const NUMBERS: usize = 16;
+// Outcomes are below this number; those between that no event has are never counted.
+pub const NUMBERS: usize = 19;
 
 const MOST: u64 = 18_446_744_073_709_551_615;
 
 // One more event with that outcome.
-pub fn count(tally: &mut [u64; 16], outcome: u64) {
+pub fn count(tally: &mut [u64; NUMBERS], outcome: u64) {
     if outcome >= NUMBERS as u64 {
         return;
     }
@@ -27,7 +28,7 @@ fn outcome_at(answers: &[u8], i: usize) -> u64 {
 }
 
 // The events of a run.
-pub fn count_run(tally: &mut [u64; 16], answers: &[u8], events: usize) {
+pub fn count_run(tally: &mut [u64; NUMBERS], answers: &[u8], events: usize) {
     let mut i: usize = 0;
     while i < events {
         count(tally, outcome_at(answers, i));
@@ -52,7 +53,11 @@ fn put_words(outcome: usize) {
         not awaited\n\
         the old side is not the current provider\n\
         a fresh version and no free row\n\
-        a fresh version and number 65,535 is used\n",
+        a fresh version and number 65,535 is used\n\
+        no outcome\n\
+        no outcome\n\
+        no outcome\n\
+        a concurring create with another due date than the first\n",
         outcome,
     );
 }
@@ -66,12 +71,12 @@ fn say_refused(outcome: usize, n: u64) {
     names::put(b"\n");
 }
 
-fn counted(tally: &[u64; 16], outcome: usize) -> u64 {
+fn counted(tally: &[u64; NUMBERS], outcome: usize) -> u64 {
     if outcome < NUMBERS { tally[outcome] } else { 0 }
 }
 
 // How many were done, and a line for each number that an event was refused with.
-pub fn say(tally: &[u64; 16]) {
+pub fn say(tally: &[u64; NUMBERS]) {
     names::put_with(b"done #\n", counted(tally, 0), 0);
     let mut outcome: usize = 1;
     while outcome < NUMBERS {

@@ -11,7 +11,7 @@ ghost use mathlib.Core.Path.{_≡_};
 ghost use mathlib.Core.Bool.{cond};
 ghost use Prim.Native.Nat.{_<_};
 ghost use lib.Dec.{eqb};
-ghost use Rattle.model.specs.Creates.{newJoined, oldJoined, newAbsent, oldAbsent, newIn, oldIn, byNew, newFrom, oldFrom, statusBy, noBroadcast, freshNumbered, fits, concurred};
+ghost use Rattle.model.specs.Creates.{newJoined, oldJoined, newAbsent, oldAbsent, newIn, oldIn, byNew, newFrom, oldFrom, statusBy, noBroadcast, freshNumbered, fits, firstDue, agrees, concurred};
 ghost use Rattle.model.specs.Changes.{newModified, oldModified, modified, turned, cancelled, acknowledged, ownCancel, resolved, windowTurned, windowMarked, windowSpent, marks};
 ghost use Rattle.model.specs.Standing.{standingOf};
 
@@ -108,6 +108,20 @@ pub fn fits(e: Event, v: Version) -> bool
         & (v.new.provider == new_in(e))
         & (v.old.provider == old_in(e))
         & !has_joined(e, v)
+}
+
+// The due date of the side that has created, where the other creates.
+fn first_due(e: Event, v: Version) -> u32
+    ensures { λ r. ⌜ r ≡ firstDue e v ⌝ }
+{
+    if e.kind == 1 { v.old.due } else { v.new.due }
+}
+
+// Whether this create has the due date of the first.
+pub fn agrees(e: Event, v: Version) -> bool
+    ensures { λ r. ⌜ r ≡ agrees e v ⌝ }
+{
+    e.due == first_due(e, v)
 }
 
 // A worked version takes the values of the side that concurs.

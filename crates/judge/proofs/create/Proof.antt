@@ -12,6 +12,9 @@ old-in-requires c κs = search needs
 unfit-requires : tie.Need-unfit-requires
 unfit-requires c κs = search needs
 
+another-due-requires : tie.Need-another-due-requires
+another-due-requires c κs = search needs
+
 nobody-requires : tie.Need-nobody-requires
 nobody-requires c κs = search needs
 
@@ -39,6 +42,9 @@ first-requires-7 c κs = search needs
 first-requires-8 : tie.Need-first-requires-8
 first-requires-8 c κs = search needs
 
+first-requires-9 : tie.Need-first-requires-9
+first-requires-9 c κs = search needs
+
 returns : tie.Need-returns
 unfolding createFor
 returns c =
@@ -56,19 +62,23 @@ returns c =
     let c12 = c11 .before in
     let c13 = c12 .before in
     let c14 = c13 .before in
+    let c15 = c14 .before in
+    let c16 = c15 .before in
     rw (
-      c .first8 .ensures,
-      c1 .first7 .ensures,
-      c2 .first6 .ensures,
-      c3 .first5 .ensures,
-      c4 .first4 .ensures,
-      c5 .first3 .ensures,
-      c6 .first2 .ensures,
-      c7 .first .ensures,
-      c11 .nobody .ensures,
-      c12 .unfit .ensures,
-      c13 .old-in .ensures,
-      c14 .current .ensures,
+      c .first9 .ensures,
+      c1 .first8 .ensures,
+      c2 .first7 .ensures,
+      c3 .first6 .ensures,
+      c4 .first5 .ensures,
+      c5 .first4 .ensures,
+      c6 .first3 .ensures,
+      c7 .first2 .ensures,
+      c8 .first .ensures,
+      c12 .nobody .ensures,
+      c13 .another-due .ensures,
+      c14 .unfit .ensures,
+      c15 .old-in .ensures,
+      c16 .current .ensures,
     )
 
 pub create-spec : {M : Type 1} → statement M
@@ -78,6 +88,7 @@ create-spec =
     current-requires
     old-in-requires
     unfit-requires
+    another-due-requires
     nobody-requires
     first-requires
     first-requires-2
@@ -87,4 +98,5 @@ create-spec =
     first-requires-6
     first-requires-7
     first-requires-8
+    first-requires-9
     returns)

@@ -10,7 +10,7 @@ abbrev Inv-loop : tie.InvT-loop
 Inv-loop tally outcome₀ outcome = Unit {0}
 
 abbrev μ-loop : tie.MeasureT-loop
-μ-loop tally outcome₀ outcome = 16 - outcome
+μ-loop tally outcome₀ outcome = 19 - outcome
 
 slice-aggregate-put-with : tie.Need-slice-aggregate-put-with Inv-loop μ-loop
 slice-aggregate-put-with c = search needs
