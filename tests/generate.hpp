@@ -247,7 +247,7 @@ inline Event filled(Dice &d, const Situation &s, Event e, Time atLeast) {
     return e;
 }
 
-// A create. Where another side has created, mostly with its due date, which a concurrence has to give, and often a second beside it.
+// A create. Where the other side has created, nearly always with its due date, which a concurrence has to give.
 inline Event aCreate(Dice &d, const Situation &s, Tn tn) {
     Event e;
     e.tn = tn;
@@ -262,8 +262,7 @@ inline Event aCreate(Dice &d, const Situation &s, Tn tn) {
     e.other = byNew ? oldSide : newSide;
     e = filled(d, s, e, 0);
     Time first = v ? firstDue(*v, e) : 0;
-    if (first != 0 && d.chance(92)) e.due = first;
-    else if (first != 0 && d.chance(50)) e.due = after(first - 1, d.chance(50) ? 0 : 2);
+    if (first != 0 && d.chance(97)) e.due = first;
     return e;
 }
 
@@ -357,7 +356,7 @@ inline Event anyEvent(Dice &d, const Situation &s, Tn tn) {
 inline Event spoilt(Dice &d, const Situation &s, Event e) {
     const Version *v = findVersion(s.table, e.tn, e.version);
     Named named = fieldsOf(e.kind);
-    switch (d.below(9)) {
+    switch (d.below(10)) {
     case 0: case 1: {
         Time edge = largestStamp(s.table, e.tn);
         if (v && e.kind == ACTIVATES && d.chance(50)) edge = v->newDue;
@@ -392,6 +391,10 @@ inline Event spoilt(Dice &d, const Situation &s, Event e) {
         return e;
     case 6:
         e.tn.digits = d.chance(50) ? anyTenDigits(d) : e.tn.digits / 10 * 10 + d.below(10);
+        break;
+    case 8:  // a create with a due date a second beside the first's
+        e = aCreate(d, s, e.tn);
+        e.due = after(e.due - 1, d.chance(50) ? 0 : 2);
         break;
     default:
         e = aCreate(d, s, e.tn);
