@@ -182,13 +182,18 @@ void printHead() {
     std::printf("\n");
 }
 
-// Library, hand, pass; no measure where there was nothing to measure.
+// Library to hand, and to each pass that was measured beside them; no measure where there was nothing to measure.
 void printRow(const std::string &name, const std::vector<Measured> &cells) {
     std::printf("%-52s", name.c_str());
-    for (const Measured &m : cells)
-        if (!m) std::printf("|%10s%9s  ", "-", "-");
-        else if (m->works.size() < 3) std::printf("|%10.2f", m->ratio(0, 1));
-        else std::printf("|%10.2f%9.2f  ", m->ratio(0, 1), m->ratio(0, 2));
+    for (const Measured &m : cells) {
+        if (!m) {
+            std::printf("|%10s%9s  ", "-", "-");
+            continue;
+        }
+        std::printf("|%10.2f", m->ratio(0, 1));
+        for (size_t k = 2; k < m->works.size(); k++) std::printf("%9.2f", m->ratio(0, k));
+        std::printf("  ");
+    }
     std::printf("\n");
 }
 
@@ -319,12 +324,14 @@ std::optional<Event> findEvent(Dice &d, const Situation &s, const Wanted &w) {
     return std::nullopt;
 }
 
-Measured planStep(const std::shared_ptr<Lent> &l, size_t rows, uint64_t outcome, const std::string &name) {
+Measured planStep(const std::shared_ptr<Lent> &l, size_t rows, uint64_t outcome, const std::string &name, const std::vector<Work> &besides = {}) {
     Lent other = *l;
     lupinenblatt_answer a = ours(*l), b = hand(other);
     mustAgree(a.outcome == outcome && a.outcome == b.outcome && a.count == b.count && l->same(other), name);
-    return plan(repetitionsFor(rows), [=] { l->restore(); }, {[=] { sink = ours(*l).outcome; }, [=] { sink = hand(*l).outcome; },
-                [=] { sink = plain_pass(l->tableAt.data(), l->tableAt.size()); }});
+    std::vector<Work> works = {[=] { sink = ours(*l).outcome; }, [=] { sink = hand(*l).outcome; },
+                               [=] { sink = plain_pass(l->tableAt.data(), l->tableAt.size()); }};
+    works.insert(works.end(), besides.begin(), besides.end());
+    return plan(repetitionsFor(rows), [=] { l->restore(); }, works);
 }
 
 std::vector<Measured> stepRow(Dice &d, const Wanted &w, const std::vector<Situation> &situations) {
@@ -404,10 +411,17 @@ const std::vector<std::pair<const char *, Lists>> SELECTIONS = {
     {"1,024 filters, the code in a pair", {PROVIDERS, 256, FILTERS, SPLITS, true}},
 };
 
+// A plain pass over the filter list, all its places: what reading it once costs at the least.
+Work filterPass(const std::shared_ptr<Lent> &l) {
+    return [=] { sink = plain_pass(l->books.data() + FILTERS_AT, SPLITS_AT - FILTERS_AT); };
+}
+
 void selections() {
+    lines.push_back([] { std::printf("\n%-52s|     /hand    /pass /filters\n", "selection (at 64 rows)"); });
     for (const auto &[name, lists] : SELECTIONS) {
         Situation s = toActivate(lists, 64);
-        addRow(std::string("step, activate, ") + name, {planStep(std::make_shared<Lent>(s, 64, PLACES, activations(s)), 64, DONE, name)});
+        auto l = std::make_shared<Lent>(s, 64, PLACES, activations(s));
+        addRow(std::string("step, activate, ") + name, {planStep(l, 64, DONE, name, {filterPass(l)})});
     }
 }
 
@@ -453,24 +467,26 @@ Bytes stillEvents(Dice &d, const Situation &s, size_t count) {
     return out;
 }
 
-// Ours, by hand, and the first 200 of the events by single steps of ours.
+// Ours, by hand, the first 200 of the events by single steps of ours, and, where it is asked for, a pass over the filter list for each event.
 struct Run {
     Measured times;
     double events, stepped;
     double oursToHand() const { return times->ratio(0, 1); }
     double stepToRun() const { return times->ratio(2, 0) * events / stepped; }
+    double toFilterPass() const { return times->ratio(0, 3); }
     double each(size_t work) const { return times->least[work] / events; }
 };
 
-Run planRun(const std::string &name, const Situation &s, size_t rows, const Bytes &events, size_t repetitions) {
+Run planRun(const std::string &name, const Situation &s, size_t rows, const Bytes &events, size_t repetitions, bool filterPasses = false) {
     size_t count = events.size() / RECORD, stepped = std::min<size_t>(count, 200);
     auto l = std::make_shared<Lent>(s, rows, PLACES + MOST_MESSAGES * std::min<size_t>(count, 64) + 4 * count, events);
     Lent other = *l;
     mustAgree(ourRun(*l) == count && handRun(other) == count && l->same(other), name);
-    Measured m = plan(repetitions, [=] { l->restore(); }, {[=] { sink = ourRun(*l); }, [=] { sink = handRun(*l); }, [=] {
+    std::vector<Work> works = {[=] { sink = ourRun(*l); }, [=] { sink = handRun(*l); }, [=] {
         for (size_t i = 0; i < stepped; i++) sink = ours(*l, i).count;
-    }});
-    return {m, double(count), double(stepped)};
+    }};
+    if (filterPasses) works.push_back(often(count, filterPass(l)));
+    return {plan(repetitions, [=] { l->restore(); }, works), double(count), double(stepped)};
 }
 
 void printRuns(const std::string &name, const std::vector<Run> &runs, double (Run::*ratio)() const) {
@@ -498,11 +514,12 @@ void runs(const std::vector<Situation> &situations) {
         std::printf("%-70s|%12.2f\n", "ours: run at 4,096 rows / run at 64 rows, the modifications", still[2].each(0) / still[0].each(0));
         std::printf("%-70s|%12.2f\n", "hand: run at 4,096 rows / run at 64 rows, the modifications", still[2].each(1) / still[0].each(1));
     });
+    lines.push_back([] { std::printf("\n%-52s|     /hand /filters\n", "many activations in one call (at 64 rows)"); });
     for (const auto &[name, lists] : SELECTIONS) {
         Situation s = toActivate(lists, 64);
-        Run r = planRun(name, s, 64, activations(s), 80);
-        std::string title = std::string("run, 64 activations, ") + name + ": ours / hand";
-        lines.push_back([=] { printRuns(title, {r}, &Run::oursToHand); });
+        Run r = planRun(name, s, 64, activations(s), 80, true);
+        std::string title = std::string("run, 64 activations, ") + name;
+        lines.push_back([=] { std::printf("%-52s|%10.2f%9.2f\n", title.c_str(), r.oursToHand(), r.toFilterPass()); });
     }
 }
 #endif
@@ -516,17 +533,18 @@ int main(int argc, char **argv) {
     for (size_t n : SIZES) situations.push_back(makeRows(d, STEP_LISTS, n, 1000));
     soundness(situations);
     steps(situations);
-    lines.push_back([] { std::printf("\n%-52s|     /hand    /pass\n", "books, selection (at 64 rows), records"); });
+    lines.push_back([] { std::printf("\n%-52s|     /hand    /pass\n", "books, records"); });
     booksRow("books check, 256 codes, 64 filters, 8 pairs", STEP_LISTS);
     booksRow("books check, all places used", {PROVIDERS, CODES, FILTERS, SPLITS, true});
-    selections();
     records();
+    selections();
 #ifdef TEST_RUN
     runs(situations);
 #endif
     for (size_t i = 0; i < rounds; i++)
         for (const Measured &m : measures) m->round();
-    std::printf("ratios of times: ours / written by hand in C, ours / a plain pass over the table's bytes; below 1 ours is faster\n");
+    std::printf("ratios of times: ours / written by hand in C, ours / a plain pass over the table's bytes (books check: the books';\n"
+                "/filters: the filter list's); below 1 ours is faster\n");
     printHead();
     for (const Work &line : lines) line();
     for (const std::string &what : differing) std::printf("THE TWO DIFFER: %s\n", what.c_str());
