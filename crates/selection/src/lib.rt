@@ -1,34 +1,85 @@
-// Which systems a broadcast asks. Nobody else reads the filters. [D5, D6, F2]
+// Which systems a broadcast asks. Nobody else reads the filters. [D5, D6, F2, A2.1]
 ghost use mathlib.Core.Path.{_≡_};
-ghost use mathlib.Core.Bool.{true, _&&_, _||_};
-ghost use Prim.Native.Nat.{_/_, _%_, _^_};
+ghost use mathlib.Core.Bool.{true, cond, not, _&&_, _||_};
+ghost use Prim.Native.Nat.{_+_, _<_};
 ghost use lib.Dec.{eqb, ltb};
+ghost use lib.ListN.{length};
 ghost use Rattle.systems.specs.Set.{maskOf};
 ghost use Rattle.model.specs.Selection.{selects};
-ghost use Rattle.books.specs.Packed.{decodeBooks, soundBytes};
+ghost use Rattle.books.specs.Packed.{bookBytes, rowPlaces, filterPlace, decodeBooks, soundBytes};
+ghost use Rattle.selection.specs.Pass.{mostLooks, Passed};
 use model::Marks;
 
-// Whether a filter's place is behind all of the provider's: free, or another's who comes later.
-fn past(w: u64, provider: u8) -> bool
-    ensures { λ r. ⌜ r ≡ (eqb w 0 || ltb provider (w / 2 ^ 20)) ⌝ }
-{
-    (w == 0) | ((provider as u64) < w / 1048576)
+// A filter's place is a number: its provider times this, and its code.
+const CODES: u64 = 1048576;
+
+// A look at the filter list: what stands at the place, and how many looks there have been with this one.
+struct Look {
+    place: u64,
+    looks: u64,
 }
 
-// Whether the provider's filter on the code has been seen, once place w has been read too.
-fn seen_with(seen: bool, w: u64, provider: u8, code: u64) -> bool
-    ensures { λ r. ⌜ r ≡ (seen || (eqb (w / 2 ^ 20) provider && eqb (w % 2 ^ 20) code)) ⌝ }
+// Nothing else reads the list, and nothing looks more often than `mostLooks`.
+fn look_at(books: &[u8], i: usize, looks: u64) -> Look
+    requires { ⌜ (length (now books) ≡ bookBytes) × (i < rowPlaces) × (looks < mostLooks) ⌝ }
+    ensures { λ r. ⌜ (r .place ≡ filterPlace (now (books .entry)) i) × (r .looks ≡ looks + 1) ⌝ }
 {
-    seen | ((w / 1048576 == provider as u64) & (w % 1048576 == code))
+    Look {
+        place: octets::u32_at(books, books::FILTERS_AT + 4 * i),
+        looks: looks + 1,
+    }
 }
 
-// Those who run a Local SMS and are not skipped. Providers and filters both rise, so that one pass over the filters serves all providers.
-pub fn selected(marks: Marks, books: &[u8], code: u64) -> u64
+// Whether a place comes before the wanted one: used, and smaller.
+fn before(place: u64, wanted: u64) -> bool
+    ensures { λ r. ⌜ r ≡ (not (eqb place 0) && ltb place wanted) ⌝ }
+{
+    (place != 0) & (place < wanted)
+}
+
+// A provider is skipped that filters the code and its partner: the smaller of the two, or the code where there is no partner.
+fn smaller(code: u64, partner: u64) -> u64
+    ensures { λ r. ⌜ r ≡ cond (eqb partner 0 || ltb code partner) code partner ⌝ }
+{
+    if (partner == 0) | (code < partner) {
+        return code;
+    }
+    partner
+}
+
+// And the larger.
+fn larger(code: u64, partner: u64) -> u64
+    ensures { λ r. ⌜ r ≡ cond (ltb code partner) partner code ⌝ }
+{
+    if code < partner {
+        return partner;
+    }
+    code
+}
+
+// The set of the selected, and how often the filter list was looked at.
+struct Pass {
+    selected: u64,
+    looks: u64,
+}
+
+// Those who run a Local SMS and are not skipped. The places rise, by provider and then code, and so do the wanted ones: one pass over the
+// list serves all providers. A place that does not come before the wanted one decides. [D6, A2.1]
+fn one_pass(marks: Marks, books: &[u8], code: u64) -> Pass
     requires { ⌜ soundBytes marks (now books) ≡ true ⌝ }
-    ensures { λ r. ⌜ r ≡ maskOf (selects (decodeBooks marks (now (books .entry))) code) 63 ⌝ }
+    ensures { λ r. ⌜ Passed (decodeBooks marks (now (books .entry))) code r ⌝ }
 {
     let partner = books::partner(books, code);
-    let mut chosen: u64 = 0;
+    let first = smaller(code, partner);
+    let last = larger(code, partner);
+    if last >= CODES {
+        return Pass {
+            selected: marks.local,
+            looks: 0,
+        };
+    }
+    let mut selected: u64 = 0;
+    let mut looks: u64 = 0;
     let mut provider: u8 = 0;
     let mut i: usize = 0;
     'providers: while provider < 63 {
@@ -36,21 +87,34 @@ pub fn selected(marks: Marks, books: &[u8], code: u64) -> u64
         if !systems::has(marks.local, provider) {
             continue 'providers;
         }
-        let mut seen = false;
-        let mut seen_partner = partner == 0;
+        let own = (provider as u64) * CODES;
+        let until = own + last;
+        let mut wanted = own + first;
         'filters: while i < books::ROW_PLACES {
-            let w = octets::u32_at(books, books::FILTERS_AT + 4 * i);
-            if past(w, provider) {
+            let seen = look_at(books, i, looks);
+            looks = seen.looks;
+            if before(seen.place, wanted) {
+                i += 1;
+                continue 'filters;
+            }
+            if seen.place != wanted {
                 break 'filters;
             }
-            seen = seen_with(seen, w, provider, code);
-            seen_partner = seen_with(seen_partner, w, provider, partner);
-            if seen & seen_partner {
+            if wanted == until {
                 continue 'providers;
             }
+            wanted = until;
             i += 1;
         }
-        chosen += systems::bit(provider);
+        selected += systems::bit(provider);
     }
-    chosen
+    Pass { selected, looks }
+}
+
+// The set alone.
+pub fn selected(marks: Marks, books: &[u8], code: u64) -> u64
+    requires { ⌜ soundBytes marks (now books) ≡ true ⌝ }
+    ensures { λ r. ⌜ r ≡ maskOf (selects (decodeBooks marks (now (books .entry))) code) 63 ⌝ }
+{
+    one_pass(marks, books, code).selected
 }
