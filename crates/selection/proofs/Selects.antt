@@ -2,7 +2,7 @@
 -- Assumes nothing.
 use Prim.Native.Nat.{ℕ, zero, suc, _+_, _*_, _%_, _^_, _≤_, _<_}
 use mathlib.Core.Path.{_≡_, refl, sym, ap, ap₂, _∙_}
-use mathlib.Core.Bool.{Bool, true, false, cond, not, _&&_, _||_}
+use mathlib.Core.Bool.{Bool, true, false, cond, not, _&&_, _||_, and-true, and-false, and-self, and-comm}
 use mathlib.Core.List.{List}
 use native.Mathlib.Nat.{pow-suc, add-zero, div-one}
 use native.Mathlib.Numerals.{add-one}
@@ -45,21 +45,11 @@ smaller-le c q = go (eqb q 0) (ltb c q) refl
 both-of : (f : ℕ → Bool) (c q : ℕ) → (f c && (eqb q 0 || f q)) ≡ (f (smallerOf c q) && f (largerOf c q))
 both-of f c q = go (eqb q 0) refl (ltb c q) refl
   where
-    twice : (s : Bool) → (s && true) ≡ (s && s)
-    twice true = refl
-    twice false = refl
-
-    turned : (s t : Bool) → (s && t) ≡ (t && s)
-    turned true true = refl
-    turned true false = refl
-    turned false true = refl
-    turned false false = refl
-
     go : (a : Bool) → eqb q 0 ≡ a → (b : Bool) → ltb c q ≡ b → (f c && (a || f q)) ≡ (f (cond (a || b) c q) && f (cond b q c))
     go true e true g = absurd (let l : c < q = ltb-true c q g in let z : q ≡ 0 = eqb-true q 0 e in omega arith)
-    go true e false g = twice (f c)
+    go true e false g = and-true (f c) ∙ sym (and-self (f c))
     go false e true g = refl
-    go false e false g = turned (f c) (f q)
+    go false e false g = and-comm (f c) (f q)
 
 -- ---- whether a provider is selected
 
@@ -119,11 +109,7 @@ module _ (m : Marks) (bs : List ℕ) (c p q : ℕ) (hq : q ≡ partnerOf (decode
   unskipped h =
       skipped-both (decodeBooks m bs) c p q hq
       ∙ ap (λ (b : Bool). filters (decodeBooks m bs) p (smallerOf c q) && b) (no-filter p (largerOf c q) h (placesFrom bs 0))
-      ∙ go (filters (decodeBooks m bs) p (smallerOf c q))
-    where
-      go : (b : Bool) → (b && false) ≡ false
-      go true = refl
-      go false = refl
+      ∙ and-false (filters (decodeBooks m bs) p (smallerOf c q))
 
 -- ---- the set of the selected
 

@@ -2,7 +2,7 @@
 -- Assumes nothing.
 use Prim.Native.Nat.{ℕ, _+_, _*_, _^_, _≤_, _<_}
 use mathlib.Core.Path.{_≡_, refl, sym, ap, ap₂, _∙_}
-use mathlib.Core.Bool.{Bool, true, false, not, _&&_, false≢true}
+use mathlib.Core.Bool.{Bool, true, false, not, _&&_, false≢true, and-self}
 use mathlib.Core.List.{List}
 use mathlib.Core.Logic.{_⊎_, inl, inr}
 use native.Mathlib.Omega.{arith}
@@ -111,12 +111,8 @@ module _ {m : Marks} {bs : List ℕ} {c p until looks i wanted x : ℕ}
         used = omega arith;
         upto = omega arith;
         come = come-next bs wanted i x h hx (s .come) (λ e. omega arith) until (omega arith) (omega arith);
-        both = s .both ∙ ap (λ (b : Bool). b && among until (placesFrom bs 0)) (found q) ∙ twice (among until (placesFrom bs 0));
+        both = s .both ∙ ap (λ (b : Bool). b && among until (placesFrom bs 0)) (found q) ∙ sym (and-self (among until (placesFrom bs 0)));
       }
-    where
-      twice : (b : Bool) → b ≡ (b && b)
-      twice true = refl
-      twice false = refl
 
   -- the last one: the provider is skipped
   pub seek-found : x ≡ wanted → wanted ≡ until → skipped (decodeBooks m bs) c p ≡ true
