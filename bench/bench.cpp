@@ -324,7 +324,8 @@ std::optional<Event> findEvent(Dice &d, const Situation &s, const Wanted &w) {
     return std::nullopt;
 }
 
-Measured planStep(const std::shared_ptr<Lent> &l, size_t rows, uint64_t outcome, const std::string &name, const std::vector<Work> &besides = {}) {
+Measured planStep(const std::shared_ptr<Lent> &l, size_t rows, uint64_t outcome, const std::string &name,
+                  const std::vector<Work> &besides = {}) {
     Lent other = *l;
     lupinenblatt_answer a = ours(*l), b = hand(other);
     mustAgree(a.outcome == outcome && a.outcome == b.outcome && a.count == b.count && l->same(other), name);
@@ -467,7 +468,8 @@ Bytes stillEvents(Dice &d, const Situation &s, size_t count) {
     return out;
 }
 
-// Ours, by hand, the first 200 of the events by single steps of ours, and, where it is asked for, a pass over the filter list for each event.
+// Ours, by hand, the first 200 of the events by single steps of ours, and, where it is asked for, a pass over the filter list for each
+// event.
 struct Run {
     Measured times;
     double events, stepped;
@@ -514,12 +516,12 @@ void runs(const std::vector<Situation> &situations) {
         std::printf("%-70s|%12.2f\n", "ours: run at 4,096 rows / run at 64 rows, the modifications", still[2].each(0) / still[0].each(0));
         std::printf("%-70s|%12.2f\n", "hand: run at 4,096 rows / run at 64 rows, the modifications", still[2].each(1) / still[0].each(1));
     });
-    lines.push_back([] { std::printf("\n%-52s|     /hand /filters\n", "many activations in one call (at 64 rows)"); });
+    lines.push_back([] { std::printf("\n%-56s|     /hand /filters\n", "many activations in one call (at 64 rows)"); });
     for (const auto &[name, lists] : SELECTIONS) {
         Situation s = toActivate(lists, 64);
         Run r = planRun(name, s, 64, activations(s), 80, true);
         std::string title = std::string("run, 64 activations, ") + name;
-        lines.push_back([=] { std::printf("%-52s|%10.2f%9.2f\n", title.c_str(), r.oursToHand(), r.toFilterPass()); });
+        lines.push_back([=] { std::printf("%-56s|%10.2f%9.2f\n", title.c_str(), r.oursToHand(), r.toFilterPass()); });
     }
 }
 #endif
