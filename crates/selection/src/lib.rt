@@ -37,7 +37,7 @@ fn before(place: u64, wanted: u64) -> bool
     (place != 0) & (place < wanted)
 }
 
-// A provider is skipped that filters the code and its partner: the smaller of the two, or the code where there is no partner.
+// Of the code and its partner the smaller, whose filter is sought first; the code where there is no partner.
 fn smaller(code: u64, partner: u64) -> u64
     ensures { λ r. ⌜ r ≡ cond (eqb partner 0 || ltb code partner) code partner ⌝ }
 {
@@ -47,7 +47,7 @@ fn smaller(code: u64, partner: u64) -> u64
     partner
 }
 
-// And the larger.
+// Of the two the larger, whose filter is sought last: a provider that has both is skipped. [D5]
 fn larger(code: u64, partner: u64) -> u64
     ensures { λ r. ⌜ r ≡ cond (ltb code partner) partner code ⌝ }
 {
