@@ -20,8 +20,8 @@ use Rattle.selection.proofs.Places.{placeOf, placesFrom, ToCome, come-s
 use Rattle.selection.proofs.Selects.{smallerOf, largerOf, smaller-le, not-run, is-skipped, is-selected, skipped-places}
 use Rattle.selection.proofs.Selects.{skip-step, take-step}
 
--- Providers 1 to p have had their turn: a look for each place passed, and one more for each of them; the set of the selected; and all places
--- of later providers are to come.
+-- Providers 1 to p have had their turn: a look for each place passed, and one more for each of them; the set of the selected; and all
+-- places of later providers are to come.
 pub record Served (m : Marks) (bs : List ℕ) (c p set looks i : ℕ) : Type 0 where
   pub once : looks ≤ i + p
   pub most : p ≤ 63

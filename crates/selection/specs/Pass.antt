@@ -8,8 +8,8 @@ use Rattle.model.specs.Books.{Books}
 use Rattle.model.specs.Selection.{selects}
 use Rattle.selection.specs.declared.Pass.{Pass}
 
--- The set of the selected, and the looks at the filter list: at most one for each filter, and one more for each provider, at the place where
--- it stops. [A2.1]
+-- The set of the selected, and the looks at the filter list: at most one for each filter, and one more for each provider, at the place
+-- where it stops. [A2.1]
 pub record Passed (bk : Books) (code : ℕ) (r : Pass) : Type 0 where
   pub selected : r .selected ≡ maskOf (selects bk code) 63
   pub once : r .looks ≤ length (bk .filters) + 63
