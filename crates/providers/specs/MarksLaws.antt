@@ -27,7 +27,8 @@ runs-present m e p h k r =
     = every-at (λ (q : ℕ). implies (member (m .local) q) (member (m .present) q)) 63 p (and-r (isSet (m .present) && isSet (m .local)) _ e) h k in
     rw r at w
 
-low : (s : ℕ) → eqb (s % 2) 0 ≡ true → member s 0 ≡ false
+-- bit 0 is no provider's
+pub low : (s : ℕ) → eqb (s % 2) 0 ≡ true → member s 0 ≡ false
 unfolding member
 low s e = ap (λ (x : ℕ). eqb (x % 2) 1) (div-one s) ∙ ap (λ (x : ℕ). eqb x 1) (eqb-true (s % 2) 0 e)
 

@@ -1,7 +1,7 @@
 -- The filter list as its places say it, numbers that rise; and what is to come of it while it is read.
 -- Assumes nothing.
 use Prim.Native.Nat.{ℕ, suc, _+_, _*_, _/_, _%_, _^_, _≤_, _<_}
-use mathlib.Core.Path.{_≡_, refl, sym, ap, ap₂, _∙_, subst}
+use mathlib.Core.Path.{_≡_, refl, sym, ap, ap₂, _∙_}
 use mathlib.Core.Bool.{Bool, true, false, _&&_, _||_}
 use mathlib.Core.Logic.{_⊎_, inl, inr}
 use mathlib.Core.List.{List, [], _∷_, map}
@@ -17,13 +17,14 @@ use Rattle.model.specs.declared.Marks.{Marks}
 use Rattle.books.specs.Packed.{filterPlace, rowPlaces, filterOf, filtersOf, soundBytes}
 use Rattle.books.specs.Places.{restOf, used-none, used-more, used-end, used-length}
 use Rattle.books.specs.Given.{sound-filters}
+use Rattle.books.proofs.Filters.{rising}
 use Rattle.selection.specs.Pass.{mostLooks}
 
 -- ---- filters and places
 
--- the place of p's filter on c
-abbrev pub placeOf : ℕ → ℕ → ℕ
-placeOf p c = p * 2 ^ 20 + c
+-- what stands at the place of p's filter on c
+abbrev pub filterNumber : ℕ → ℕ → ℕ
+filterNumber p c = p * 2 ^ 20 + c
 
 -- the numbers rise, above k
 abbrev above : ℕ → List ℕ → Bool
@@ -31,7 +32,7 @@ above k [] = true
 above k (x ∷ xs) = ltb k x && above x xs
 
 -- a place is p's filter on c where it is that number
-place-is : (x p c : ℕ) → c < 2 ^ 20 → (eqb (x / 2 ^ 20) p && eqb (x % 2 ^ 20) c) ≡ eqb (placeOf p c) x
+place-is : (x p c : ℕ) → c < 2 ^ 20 → (eqb (x / 2 ^ 20) p && eqb (x % 2 ^ 20) c) ≡ eqb (filterNumber p c) x
 place-is x p c h = go (eqb (x / 2 ^ 20) p) refl (eqb (x % 2 ^ 20) c) refl
   where
     d : x / 2 ^ 20 * 2 ^ 20 + x % 2 ^ 20 ≡ x
@@ -40,18 +41,18 @@ place-is x p c h = go (eqb (x / 2 ^ 20) p) refl (eqb (x % 2 ^ 20) c) refl
     l : x % 2 ^ 20 < 2 ^ 20
     l = mod-lt x (lit< tt)
 
-    go : (a : Bool) → eqb (x / 2 ^ 20) p ≡ a → (b : Bool) → eqb (x % 2 ^ 20) c ≡ b → (a && b) ≡ eqb (placeOf p c) x
+    go : (a : Bool) → eqb (x / 2 ^ 20) p ≡ a → (b : Bool) → eqb (x % 2 ^ 20) c ≡ b → (a && b) ≡ eqb (filterNumber p c) x
     go true s true t =
         let q : x / 2 ^ 20 ≡ p = eqb-true _ _ s in
         let r : x % 2 ^ 20 ≡ c = eqb-true _ _ t in
-        sym (eq-eqb (placeOf p c) x (omega arith))
+        sym (eq-eqb (filterNumber p c) x (omega arith))
     go true s false t =
         let q : x / 2 ^ 20 ≡ p = eqb-true _ _ s in
-        sym (ne-eqb (placeOf p c) x (λ e. eqb-false (x % 2 ^ 20) c t (omega arith)))
-    go false s b t = sym (ne-eqb (placeOf p c) x (λ e. eqb-false (x / 2 ^ 20) p s (omega arith)))
+        sym (ne-eqb (filterNumber p c) x (λ e. eqb-false (x % 2 ^ 20) c t (omega arith)))
+    go false s b t = sym (ne-eqb (filterNumber p c) x (λ e. eqb-false (x / 2 ^ 20) p s (omega arith)))
 
 -- a filter is there where its place is
-pub filter-place : (p c : ℕ) → c < 2 ^ 20 → (xs : List ℕ) → filtersIn p c (map filterOf xs) ≡ among (placeOf p c) xs
+pub filter-place : (p c : ℕ) → c < 2 ^ 20 → (xs : List ℕ) → filtersIn p c (map filterOf xs) ≡ among (filterNumber p c) xs
 filter-place p c h [] = refl
 filter-place p c h (x ∷ xs) = ap₂ (λ (a b : Bool). a || b) (place-is x p c h) (filter-place p c h xs)
 
@@ -65,27 +66,15 @@ no-filter p c h (x ∷ xs) = ap₂ (λ (a b : Bool). a || b) (go (eqb (x / 2 ^ 2
     go false = refl
 
 -- filters that rise by provider and then code are places that rise
-places-rise : (p c : ℕ) → c < 2 ^ 20 → (xs : List ℕ) → filtersAbove p c (map filterOf xs) ≡ true → above (placeOf p c) xs ≡ true
-places-rise p c h [] e = refl
-places-rise p c h (x ∷ xs) e =
-    ap₂ (λ (a b : Bool). a && b) (lt-ltb (placeOf p c) x (first (ltb p (x / 2 ^ 20)) refl (and-l here behind e)))
-    (subst (λ (k : ℕ). above k xs ≡ true) d (places-rise (x / 2 ^ 20) (x % 2 ^ 20) (mod-lt x (lit< tt)) xs (and-r here behind e)))
+places-rise : (k : ℕ) (xs : List ℕ) → filtersAbove (k / 2 ^ 20) (k % 2 ^ 20) (map filterOf xs) ≡ true → above k xs ≡ true
+places-rise k [] e = refl
+places-rise k (x ∷ xs) e = ap₂ (λ (a b : Bool). a && b) (sym (rising k x) ∙ and-l here behind e) (places-rise x xs (and-r here behind e))
   where
     here : Bool
-    here = ltb p (x / 2 ^ 20) || (eqb p (x / 2 ^ 20) && ltb c (x % 2 ^ 20))
+    here = ltb (k / 2 ^ 20) (x / 2 ^ 20) || (eqb (k / 2 ^ 20) (x / 2 ^ 20) && ltb (k % 2 ^ 20) (x % 2 ^ 20))
 
     behind : Bool
     behind = filtersAbove (x / 2 ^ 20) (x % 2 ^ 20) (map filterOf xs)
-
-    d : x / 2 ^ 20 * 2 ^ 20 + x % 2 ^ 20 ≡ x
-    d = div-add-mod' x (2 ^ 20)
-
-    first : (b : Bool) → ltb p (x / 2 ^ 20) ≡ b → (b || (eqb p (x / 2 ^ 20) && ltb c (x % 2 ^ 20))) ≡ true → placeOf p c < x
-    first true t f = let l : p < x / 2 ^ 20 = ltb-true _ _ t in omega arith
-    first false t f =
-        let q : p ≡ x / 2 ^ 20 = eqb-true _ _ (and-l (eqb p (x / 2 ^ 20)) (ltb c (x % 2 ^ 20)) f) in
-        let l : c < x % 2 ^ 20 = ltb-true _ _ (and-r (eqb p (x / 2 ^ 20)) (ltb c (x % 2 ^ 20)) f) in
-        omega arith
 
 -- what rises above a number does not have it, nor a smaller one
 above-none : (k x : ℕ) (xs : List ℕ) → above k xs ≡ true → x ≤ k → among x xs ≡ false
@@ -118,7 +107,7 @@ unfolding soundFilters
 come-start m bs e k = record {
   larger = λ x h. refl;
   rise =
-      places-rise 0 0 (lit< tt) (placesFrom bs 0)
+      places-rise 0 (placesFrom bs 0)
       (and-r (leb (length (filtersOf bs)) 1024) (filtersAbove 0 0 (filtersOf bs))
       (and-l (leb (length (filtersOf bs)) 1024 && filtersAbove 0 0 (filtersOf bs)) _ (sound-filters m bs e)));
   used = omega arith;

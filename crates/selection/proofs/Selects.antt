@@ -4,7 +4,7 @@ use Prim.Native.Nat.{ℕ, zero, suc, _+_, _*_, _%_, _^_, _≤_, _<_}
 use mathlib.Core.Path.{_≡_, refl, sym, ap, ap₂, _∙_}
 use mathlib.Core.Bool.{Bool, true, false, cond, not, _&&_, _||_, and-true, and-false, and-self, and-comm}
 use mathlib.Core.List.{List}
-use native.Mathlib.Nat.{pow-suc, add-zero, div-one}
+use native.Mathlib.Nat.{pow-suc, add-zero}
 use native.Mathlib.Numerals.{add-one}
 use native.Mathlib.Omega.{arith}
 use borrow.Author.Tests.{ltb-true, ltb-false, eqb-true}
@@ -18,19 +18,14 @@ use Rattle.model.specs.Numbers.{isSet}
 use Rattle.model.specs.Books.{Books, present, runs, partnerOf, filters, soundMarks}
 use Rattle.model.specs.Selection.{skipped, classOf, isSelected, selects, selected, filterOnly, filtersBoth, noLocal, notPresent}
 use Rattle.model.specs.declared.Marks.{Marks}
-use Rattle.model.proofs.SoundSets.{InSet, in-set, set-mask}
-use Rattle.providers.specs.MarksLaws.{runs-present}
+use Rattle.model.proofs.SoundSets.{in-set, set-mask}
+use Rattle.providers.specs.MarksLaws.{runs-present, low}
 use Rattle.books.specs.Packed.{decodeBooks, soundBytes}
 use Rattle.books.specs.Given.{sound-marks}
-use Rattle.selection.proofs.Places.{placeOf, placesFrom, filter-place, no-filter}
+use Rattle.selection.specs.Pass.{smallerOf, largerOf}
+use Rattle.selection.proofs.Places.{filterNumber, placesFrom, filter-place, no-filter}
 
 -- ---- a code and its partner, the smaller and the larger
-
-abbrev pub smallerOf : ℕ → ℕ → ℕ
-smallerOf c q = cond (eqb q 0 || ltb c q) c q
-
-abbrev pub largerOf : ℕ → ℕ → ℕ
-largerOf c q = cond (ltb c q) q c
 
 pub smaller-le : (c q : ℕ) → smallerOf c q ≤ largerOf c q
 smaller-le c q = go (eqb q 0) (ltb c q) refl
@@ -95,7 +90,7 @@ module _ (m : Marks) (bs : List ℕ) (c p q : ℕ) (hq : q ≡ partnerOf (decode
   -- by the places of its filters
   pub skipped-places : largerOf c q < 2 ^ 20
       → skipped (decodeBooks m bs) c p
-      ≡ (among (placeOf p (smallerOf c q)) (placesFrom bs 0) && among (placeOf p (largerOf c q)) (placesFrom bs 0))
+      ≡ (among (filterNumber p (smallerOf c q)) (placesFrom bs 0) && among (filterNumber p (largerOf c q)) (placesFrom bs 0))
   unfolding filters
   skipped-places h =
       let l : smallerOf c q ≤ largerOf c q = smaller-le c q in
@@ -113,26 +108,23 @@ module _ (m : Marks) (bs : List ℕ) (c p q : ℕ) (hq : q ≡ partnerOf (decode
 
 -- ---- the set of the selected
 
-low-out : (s : ℕ) → s % 2 ≡ 0 → member s 0 ≡ false
-unfolding member
-low-out s e = ap (λ (x : ℕ). eqb (x % 2) 1) (div-one s) ∙ ap (λ (x : ℕ). eqb x 1) e
-
 -- nobody filters so large a code: all who run a Local SMS
 pub all-run : (m : Marks) (bs : List ℕ) (c q : ℕ) → soundBytes m bs ≡ true → q ≡ partnerOf (decodeBooks m bs) c → 2 ^ 20 ≤ largerOf c q
     → m .local ≡ maskOf (selects (decodeBooks m bs) c) 63
 unfolding soundMarks
-all-run m bs c q e hq h = ext 64 (m .local) (maskOf f 63) (local .low) (mask-lt f 63) same
+all-run m bs c q e hq h = ext 64 (m .local) (maskOf f 63) (in-set (m .local) set .low) (mask-lt f 63) same
   where
     f : ℕ → Bool
     f = selects (decodeBooks m bs) c
 
-    local : InSet (m .local)
-    local =
-        in-set (m .local)
-        (and-r (isSet (m .present)) (isSet (m .local)) (and-l (isSet (m .present) && isSet (m .local)) _ (sound-marks m bs e)))
+    set : isSet (m .local) ≡ true
+    set = and-r (isSet (m .present)) (isSet (m .local)) (and-l (isSet (m .present) && isSet (m .local)) _ (sound-marks m bs e))
+
+    even : (s : ℕ) → isSet s ≡ true → eqb (s % 2) 0 ≡ true
+    even s h = and-r (ltb s (2 ^ 64)) (eqb (s % 2) 0) h
 
     same : (p : ℕ) → p < 64 → member (m .local) p ≡ member (maskOf f 63) p
-    same zero k = low-out (m .local) (local .even) ∙ sym (low-out (maskOf f 63) (in-set (maskOf f 63) (set-mask f) .even))
+    same zero k = low (m .local) (even (m .local) set) ∙ sym (low (maskOf f 63) (even (maskOf f 63) (set-mask f)))
     same (suc p) k = go (member (m .local) (suc p)) refl ∙ sym (mask-member f 63 (suc p) (omega arith) (omega arith))
       where
         out : skipped (decodeBooks m bs) c (suc p) ≡ false

@@ -1,4 +1,5 @@
--- One pass over providers and filters: what each turn leaves to the next.
+-- One pass over providers and filters: what each turn leaves to the next. How many looks there have been stands beside it, in the loops'
+-- own invariants: at most the places passed and the providers served; within a turn one fewer, since it has not stopped yet.
 -- Assumes nothing.
 use Prim.Native.Nat.{ℕ, _+_, _*_, _^_, _≤_, _<_}
 use mathlib.Core.Path.{_≡_, refl, sym, ap, ap₂, _∙_}
@@ -16,34 +17,32 @@ use Rattle.model.specs.Selection.{skipped, selects}
 use Rattle.model.specs.declared.Marks.{Marks}
 use Rattle.books.specs.Packed.{filterPlace, rowPlaces, filterOf, filtersOf, decodeBooks, soundBytes}
 use Rattle.books.specs.Given.{sound-marks}
-use Rattle.selection.proofs.Places.{placeOf, placesFrom, ToCome, come-start, come-up, come-next, come-found, come-past}
-use Rattle.selection.proofs.Selects.{smallerOf, largerOf, smaller-le, not-run, is-skipped, is-selected, skipped-places}
+use Rattle.selection.proofs.Places.{filterNumber, placesFrom, ToCome, come-start, come-up, come-next, come-found, come-past}
+use Rattle.selection.specs.Pass.{smallerOf, largerOf, comesBefore}
+use Rattle.selection.proofs.Selects.{smaller-le, not-run, is-skipped, is-selected, skipped-places}
 use Rattle.selection.proofs.Selects.{skip-step, take-step}
 
--- Providers 1 to p have had their turn: a look for each place passed, and one more for each of them; the set of the selected; and all
--- places of later providers are to come.
-pub record Served (m : Marks) (bs : List ℕ) (c p set looks i : ℕ) : Type 0 where
-  pub once : looks ≤ i + p
+-- Providers 1 to p have had their turn: the set of the selected, and all places of later providers are to come.
+pub record Served (m : Marks) (bs : List ℕ) (c p set i : ℕ) : Type 0 where
   pub most : p ≤ 63
   pub chosen : set ≡ maskOf (selects (decodeBooks m bs) c) p
   pub come : ToCome bs ((p + 1) * 2 ^ 20) i
 
--- Provider p has its turn: it has not looked at the place where it stops, and it is skipped if the wanted place and the last one are there.
-pub record Seeks (m : Marks) (bs : List ℕ) (c p until looks i wanted : ℕ) : Type 0 where
-  pub once : looks < i + p
-  pub used : 0 < wanted
+-- Provider p has its turn: it is skipped if the wanted place and the last one are there.
+pub record Seeks (m : Marks) (bs : List ℕ) (c p until i wanted : ℕ) : Type 0 where
+  pub nonzero : 0 < wanted
   pub upto : wanted ≤ until
   pub come : ToCome bs wanted i
   pub both : skipped (decodeBooks m bs) c p ≡ (among wanted (placesFrom bs 0) && among until (placesFrom bs 0))
 
-pub serve-start : (m : Marks) (bs : List ℕ) (c : ℕ) → soundBytes m bs ≡ true → Served m bs c 0 0 0 0
+pub serve-start : (m : Marks) (bs : List ℕ) (c : ℕ) → soundBytes m bs ≡ true → Served m bs c 0 0 0
 unfolding maskOf
-serve-start m bs c e = record { once = omega arith; most = omega arith; chosen = refl; come = come-start m bs e ((0 + 1) * 2 ^ 20) }
+serve-start m bs c e = record { most = omega arith; chosen = refl; come = come-start m bs e ((0 + 1) * 2 ^ 20) }
 
 -- all have had theirs: the list was read once
-pub serve-looks : {m : Marks} {bs : List ℕ} {c p set looks i : ℕ} → Served m bs c p set looks i → looks ≤ length (filtersOf bs) + 63
-serve-looks {bs = bs} {p = p} {looks = looks} {i = i} s =
-    let o : looks ≤ i + p = s .once in
+pub serve-looks : {m : Marks} {bs : List ℕ} {c p set looks i : ℕ} → looks ≤ i + p → Served m bs c p set i
+    → looks ≤ length (filtersOf bs) + 63
+serve-looks {bs = bs} {p = p} {i = i} o s =
     let k : p ≤ 63 = s .most in
     let u : i + length (placesFrom bs i) ≡ length (placesFrom bs 0) = s .come .used in
     let n : length (filtersOf bs) ≡ length (placesFrom bs 0) = length-map (placesFrom bs 0) filterOf in
@@ -51,64 +50,54 @@ serve-looks {bs = bs} {p = p} {looks = looks} {i = i} s =
 
 -- ---- a turn begins
 
-module _ {m : Marks} {bs : List ℕ} {c p set looks i : ℕ} (s : Served m bs c p set looks i) (k : p < 63) where
+module _ {m : Marks} {bs : List ℕ} {c p set i : ℕ} (s : Served m bs c p set i) (k : p < 63) where
   -- the provider runs no Local SMS
-  pub serve-none : member (m .local) (p + 1) ≡ false → Served m bs c (p + 1) set looks i
-  serve-none r =
-      let o : looks ≤ i + p = s .once in
-      record {
-        once = omega arith;
-        most = omega arith;
-        chosen = skip-step (selects (decodeBooks m bs) c) p set (s .chosen) (not-run (decodeBooks m bs) c (p + 1) r);
-        come = come-up bs ((p + 1) * 2 ^ 20) ((p + 1 + 1) * 2 ^ 20) i (omega arith) (s .come);
-      }
+  pub serve-none : member (m .local) (p + 1) ≡ false → Served m bs c (p + 1) set i
+  serve-none r = record {
+    most = omega arith;
+    chosen = skip-step (selects (decodeBooks m bs) c) p set (s .chosen) (not-run (decodeBooks m bs) c (p + 1) r);
+    come = come-up bs ((p + 1) * 2 ^ 20) ((p + 1 + 1) * 2 ^ 20) i (omega arith) (s .come);
+  }
 
   -- it seeks the smaller of the two codes first
   pub seek-start : (q : ℕ) → q ≡ partnerOf (decodeBooks m bs) c → largerOf c q < 2 ^ 20
-      → Seeks m bs c (p + 1) (placeOf (p + 1) (largerOf c q)) looks i (placeOf (p + 1) (smallerOf c q))
+      → Seeks m bs c (p + 1) (filterNumber (p + 1) (largerOf c q)) i (filterNumber (p + 1) (smallerOf c q))
   seek-start q hq h =
-      let o : looks ≤ i + p = s .once in
       let l : smallerOf c q ≤ largerOf c q = smaller-le c q in
       record {
-        once = omega arith;
-        used = omega arith;
+        nonzero = omega arith;
         upto = omega arith;
-        come = come-up bs ((p + 1) * 2 ^ 20) (placeOf (p + 1) (smallerOf c q)) i (omega arith) (s .come);
+        come = come-up bs ((p + 1) * 2 ^ 20) (filterNumber (p + 1) (smallerOf c q)) i (omega arith) (s .come);
         both = skipped-places m bs c (p + 1) q hq h;
       }
 
 -- ---- a look at place i finds x
 
-module _ {m : Marks} {bs : List ℕ} {c p until looks i wanted x : ℕ}
-    (h : i < rowPlaces) (hx : x ≡ filterPlace bs i) (s : Seeks m bs c p until looks i wanted) where
+module _ {m : Marks} {bs : List ℕ} {c p until i wanted x : ℕ}
+    (h : i < rowPlaces) (hx : x ≡ filterPlace bs i) (s : Seeks m bs c p until i wanted) where
   -- a place before the wanted one: on to the next
-  pub seek-next : (r : Bool) → r ≡ (not (eqb x 0) && ltb x wanted) → r ≡ true → Seeks m bs c p until (looks + 1) (i + 1) wanted
+  pub seek-next : (r : Bool) → r ≡ comesBefore x wanted → r ≡ true → Seeks m bs c p until (i + 1) wanted
   seek-next r hr t = go (eqb x 0) refl (sym hr ∙ t)
     where
-      go : (b : Bool) → eqb x 0 ≡ b → (not b && ltb x wanted) ≡ true → Seeks m bs c p until (looks + 1) (i + 1) wanted
+      go : (b : Bool) → eqb x 0 ≡ b → (not b && ltb x wanted) ≡ true → Seeks m bs c p until (i + 1) wanted
       go true e f = absurd (false≢true f)
-      go false e f =
-          let o : looks < i + p = s .once in
-          record {
-            once = omega arith;
-            used = s .used;
-            upto = s .upto;
-            come = come-next bs wanted i x h hx (s .come) (eqb-false x 0 e) wanted (omega arith) (ltb-true x wanted f);
-            both = s .both;
-          }
+      go false e f = record {
+        nonzero = s .nonzero;
+        upto = s .upto;
+        come = come-next bs wanted i x h hx (s .come) (eqb-false x 0 e) wanted (omega arith) (ltb-true x wanted f);
+        both = s .both;
+      }
 
   found : x ≡ wanted → among wanted (placesFrom bs 0) ≡ true
-  found q = let z : 0 < wanted = s .used in come-found bs wanted i x h hx (s .come) q (λ e. omega arith)
+  found q = let z : 0 < wanted = s .nonzero in come-found bs wanted i x h hx (s .come) q (λ e. omega arith)
 
   -- the wanted one, and not yet the last: that one is wanted now
-  pub seek-last : x ≡ wanted → (wanted ≡ until → ⊥) → Seeks m bs c p until (looks + 1) (i + 1) until
+  pub seek-last : x ≡ wanted → (wanted ≡ until → ⊥) → Seeks m bs c p until (i + 1) until
   seek-last q n =
-      let o : looks < i + p = s .once in
-      let z : 0 < wanted = s .used in
+      let z : 0 < wanted = s .nonzero in
       let u : wanted ≤ until = s .upto in
       record {
-        once = omega arith;
-        used = omega arith;
+        nonzero = omega arith;
         upto = omega arith;
         come = come-next bs wanted i x h hx (s .come) (λ e. omega arith) until (omega arith) (omega arith);
         both = s .both ∙ ap (λ (b : Bool). b && among until (placesFrom bs 0)) (found q) ∙ sym (and-self (among until (placesFrom bs 0)));
@@ -119,7 +108,7 @@ module _ {m : Marks} {bs : List ℕ} {c p until looks i wanted x : ℕ}
   seek-found q n = s .both ∙ ap₂ (λ (a b : Bool). a && b) (found q) (ap (λ (k : ℕ). among k (placesFrom bs 0)) (sym n) ∙ found q)
 
   -- neither: the wanted one is not there
-  pub seek-past : (r : Bool) → r ≡ (not (eqb x 0) && ltb x wanted) → r ≡ false → (x ≡ wanted → ⊥)
+  pub seek-past : (r : Bool) → r ≡ comesBefore x wanted → r ≡ false → (x ≡ wanted → ⊥)
       → among wanted (placesFrom bs 0) ≡ false
   seek-past r hr f n = come-past bs wanted i x h hx (s .come) (go (eqb x 0) refl (sym hr ∙ f))
     where
@@ -127,30 +116,27 @@ module _ {m : Marks} {bs : List ℕ} {c p until looks i wanted x : ℕ}
       go true e g = inl (eqb-true x 0 e)
       go false e g = inr (let l : wanted ≤ x = ltb-false x wanted g in omega arith)
 
--- ---- a turn ends, after at most one look more than the places passed
+-- ---- a turn ends
 
-module _ {m : Marks} {bs : List ℕ} {c p set was from : ℕ} (w : Served m bs c p set was from) (k : p < 63)
-    {until looks i wanted all : ℕ} (hu : until < (p + 1 + 1) * 2 ^ 20)
-    (s : Seeks m bs c (p + 1) until looks i wanted) (ha : all ≤ looks + 1) where
-  serve : (now : ℕ) → now ≡ maskOf (selects (decodeBooks m bs) c) (p + 1) → Served m bs c (p + 1) now all i
+module _ {m : Marks} {bs : List ℕ} {c p set from : ℕ} (w : Served m bs c p set from) (k : p < 63)
+    {until i wanted : ℕ} (hu : until < (p + 1 + 1) * 2 ^ 20) (s : Seeks m bs c (p + 1) until i wanted) where
+  serve : (now : ℕ) → now ≡ maskOf (selects (decodeBooks m bs) c) (p + 1) → Served m bs c (p + 1) now i
   serve now e =
-      let o : looks < i + (p + 1) = s .once in
       let u : wanted ≤ until = s .upto in
       record {
-        once = omega arith;
         most = omega arith;
         chosen = e;
         come = come-up bs wanted ((p + 1 + 1) * 2 ^ 20) i (omega arith) (s .come);
       }
 
   -- it is skipped
-  pub serve-skipped : skipped (decodeBooks m bs) c (p + 1) ≡ true → Served m bs c (p + 1) set all i
+  pub serve-skipped : skipped (decodeBooks m bs) c (p + 1) ≡ true → Served m bs c (p + 1) set i
   serve-skipped e =
       serve set (skip-step (selects (decodeBooks m bs) c) p set (w .chosen) (is-skipped (decodeBooks m bs) c (p + 1) e))
 
   -- the wanted place is not there: it is selected
   pub serve-selected : soundBytes m bs ≡ true → member (m .local) (p + 1) ≡ true → among wanted (placesFrom bs 0) ≡ false
-      → (b : ℕ) → b ≡ 2 ^ (p + 1) → Served m bs c (p + 1) (set + b) all i
+      → (b : ℕ) → b ≡ 2 ^ (p + 1) → Served m bs c (p + 1) (set + b) i
   serve-selected e r f b hb =
       let out : skipped (decodeBooks m bs) c (p + 1) ≡ false = s .both ∙ ap (λ (a : Bool). a && among until (placesFrom bs 0)) f in
       serve (set + b)

@@ -1,12 +1,25 @@
--- What one pass over providers and filters answers.
+-- One pass over providers and filters: what it seeks, and what it answers.
 -- Assumes nothing.
 use Prim.Native.Nat.{ℕ, _+_, _≤_}
 use mathlib.Core.Path.{_≡_}
+use mathlib.Core.Bool.{Bool, cond, not, _&&_, _||_}
+use lib.Dec.{eqb, ltb}
 use lib.ListN.{length}
 use Rattle.systems.specs.Set.{maskOf}
 use Rattle.model.specs.Books.{Books}
 use Rattle.model.specs.Selection.{selects}
 use Rattle.selection.specs.declared.Pass.{Pass}
+
+-- Of a code and its partner the smaller and the larger; where there is no partner (0), both are the code.
+abbrev pub smallerOf : ℕ → ℕ → ℕ
+smallerOf code partner = cond (eqb partner 0 || ltb code partner) code partner
+
+abbrev pub largerOf : ℕ → ℕ → ℕ
+largerOf code partner = cond (ltb code partner) partner code
+
+-- Whether a place comes before the wanted one: used, and smaller.
+abbrev pub comesBefore : ℕ → ℕ → Bool
+comesBefore place wanted = not (eqb place 0) && ltb place wanted
 
 -- The set of the selected, and the looks at the filter list: at most one for each filter, and one more for each provider, at the place
 -- where it stops. [A2.1]

@@ -1,13 +1,12 @@
 // Which systems a broadcast asks. Nobody else reads the filters. [D5, D6, F2, A2.1]
 ghost use mathlib.Core.Path.{_≡_};
-ghost use mathlib.Core.Bool.{true, cond, not, _&&_, _||_};
+ghost use mathlib.Core.Bool.{true};
 ghost use Prim.Native.Nat.{_+_, _<_};
-ghost use lib.Dec.{eqb, ltb};
 ghost use lib.ListN.{length};
 ghost use Rattle.systems.specs.Set.{maskOf};
 ghost use Rattle.model.specs.Selection.{selects};
 ghost use Rattle.books.specs.Packed.{bookBytes, rowPlaces, filterPlace, decodeBooks, soundBytes};
-ghost use Rattle.selection.specs.Pass.{mostLooks, Passed};
+ghost use Rattle.selection.specs.Pass.{smallerOf, largerOf, comesBefore, mostLooks, Passed};
 use model::Marks;
 
 // A filter's place is a number: its provider times this, and its code.
@@ -32,14 +31,14 @@ fn look_at(books: &[u8], i: usize, looks: u64) -> Look
 
 // Whether a place comes before the wanted one: used, and smaller.
 fn before(place: u64, wanted: u64) -> bool
-    ensures { λ r. ⌜ r ≡ (not (eqb place 0) && ltb place wanted) ⌝ }
+    ensures { λ r. ⌜ r ≡ comesBefore place wanted ⌝ }
 {
     (place != 0) & (place < wanted)
 }
 
 // Of the code and its partner the smaller, whose filter is sought first; the code where there is no partner.
 fn smaller(code: u64, partner: u64) -> u64
-    ensures { λ r. ⌜ r ≡ cond (eqb partner 0 || ltb code partner) code partner ⌝ }
+    ensures { λ r. ⌜ r ≡ smallerOf code partner ⌝ }
 {
     if (partner == 0) | (code < partner) {
         return code;
@@ -49,7 +48,7 @@ fn smaller(code: u64, partner: u64) -> u64
 
 // Of the two the larger, whose filter is sought last: a provider that has both is skipped. [D5]
 fn larger(code: u64, partner: u64) -> u64
-    ensures { λ r. ⌜ r ≡ cond (ltb code partner) partner code ⌝ }
+    ensures { λ r. ⌜ r ≡ largerOf code partner ⌝ }
 {
     if code < partner {
         return partner;

@@ -5,7 +5,7 @@ use mathlib.Core.Path.{_≡_, refl, sym, ap, ap₂, _∙_}
 use mathlib.Core.Bool.{Bool, true, false, not, _&&_, _||_, and-assoc, and-false}
 use mathlib.Core.List.{List, [], _∷_, map}
 use native.Mathlib.Omega.{arith}
-use borrow.Author.Tests.{lt-ltb, le-ltb, le-leb, ltb-true, ltb-false, eqb-true, eqb-false}
+use borrow.Author.Tests.{le-leb}
 use lib.Dec.{eqb, ltb, leb}
 use lib.ListN.{length, length-map}
 use Rattle.systems.specs.Set.{member}
@@ -15,6 +15,7 @@ use Rattle.model.specs.Books.{Owned, Filter, Split, soundMarks, codesAbove, sou
 use Rattle.model.specs.declared.Marks.{Marks}
 use Rattle.books.specs.Packed.{bookBytes, rowPlaces, splitPlaces, headOf, codePlace, filterPlace, splitPlace, ownedOf, filterOf, splitOf, usedFrom, packedFrom, soundBytes}
 use Rattle.books.specs.Places.{restOf, used-more, used-length}
+use Rattle.books.proofs.Filters.{rising}
 use Rattle.entries.specs.Good.{goodCode, goodRow}
 use Rattle.soundbooks.specs.Scan.{Test, chain, scan, scan-is, scan-next, scan-forgets}
 
@@ -48,22 +49,6 @@ codes-chain : (m : Marks) (last : ℕ) (xs : List ℕ)
     → (codesAbove (last / 64) (map ownedOf xs) && all (λ (x : Owned). isCode (x .code) && isProvider (x .owner) && member (m .present) (x .owner)) (map ownedOf xs)) ≡ chain (rowTest false m) last xs
 codes-chain m last [] = refl
 codes-chain m last (x ∷ xs) = four (ltb (last / 64) (x / 64)) _ _ _ ∙ ap (λ (b : Bool). goodCode m last x && b) (codes-chain m x xs)
-
--- by provider and then code is by place
-rising : (a b : ℕ) → (ltb (a / 2 ^ 20) (b / 2 ^ 20) || (eqb (a / 2 ^ 20) (b / 2 ^ 20) && ltb (a % 2 ^ 20) (b % 2 ^ 20))) ≡ ltb a b
-rising a b = go (ltb (a / 2 ^ 20) (b / 2 ^ 20)) refl
-  where
-    same : a / 2 ^ 20 ≡ b / 2 ^ 20 → (t : Bool) → ltb (a % 2 ^ 20) (b % 2 ^ 20) ≡ t → t ≡ ltb a b
-    same q true e = sym (lt-ltb a b (let h : a % 2 ^ 20 < b % 2 ^ 20 = ltb-true _ _ e in omega arith))
-    same q false e = sym (le-ltb a b (let h : b % 2 ^ 20 ≤ a % 2 ^ 20 = ltb-false _ _ e in omega arith))
-
-    below : b / 2 ^ 20 ≤ a / 2 ^ 20 → (t : Bool) → eqb (a / 2 ^ 20) (b / 2 ^ 20) ≡ t → (t && ltb (a % 2 ^ 20) (b % 2 ^ 20)) ≡ ltb a b
-    below l true e = same (eqb-true _ _ e) _ refl
-    below l false e = sym (le-ltb a b (let h : (a / 2 ^ 20 ≡ b / 2 ^ 20 → ⊥) = eqb-false _ _ e in omega arith))
-
-    go : (t : Bool) → ltb (a / 2 ^ 20) (b / 2 ^ 20) ≡ t → (t || (eqb (a / 2 ^ 20) (b / 2 ^ 20) && ltb (a % 2 ^ 20) (b % 2 ^ 20))) ≡ ltb a b
-    go true e = sym (lt-ltb a b (let h : a / 2 ^ 20 < b / 2 ^ 20 = ltb-true _ _ e in omega arith))
-    go false e = below (ltb-false _ _ e) (eqb (a / 2 ^ 20) (b / 2 ^ 20)) refl
 
 filters-chain : (m : Marks) (last : ℕ) (xs : List ℕ)
     → (filtersAbove (last / 2 ^ 20) (last % 2 ^ 20) (map filterOf xs) && all (λ (x : Filter). isProvider (x .provider) && member (m .present) (x .provider) && isCode (x .code)) (map filterOf xs)) ≡ chain (rowTest true m) last xs

@@ -13,7 +13,8 @@ use Rattle.model.specs.Selection.{selects}
 use Rattle.books.specs.Packed.{rowPlaces, decodeBooks}
 use Rattle.books.specs.Given.{sound-length}
 use Rattle.selection.proofs.Places.{placesFrom, come-looks, come-end}
-use Rattle.selection.proofs.Selects.{largerOf, smaller-le, all-run, mask-room}
+use Rattle.selection.specs.Pass.{largerOf}
+use Rattle.selection.proofs.Selects.{smaller-le, all-run, mask-room}
 use Rattle.selection.proofs.Turns.{Served, Seeks, serve-start, serve-looks, serve-none, seek-start, seek-next, seek-last}
 use Rattle.selection.proofs.Turns.{seek-found, seek-past, serve-skipped, serve-selected}
 use Rattle.selection.proofs.one_pass.Statement.{statement}
@@ -21,14 +22,14 @@ use Rattle.selection.proofs.one_pass.Tie as tie
 
 abbrev Inv-filters : tie.InvT-filters
 Inv-filters marks books code partner first last selected looks₀ provider i₀ own until wanted₀ looks i wanted =
-    Seeks marks books code provider until looks i wanted
+    (looks < i + provider) × Seeks marks books code provider until i wanted
 
 abbrev μ-filters : tie.MeasureT-filters
 μ-filters marks books code partner first last selected looks₀ provider i₀ own until wanted₀ looks i wanted = rowPlaces - i
 
 abbrev Inv-providers : tie.InvT-providers
 Inv-providers marks books code partner first last selected₀ looks₀ provider₀ i₀ selected looks provider i =
-    Served marks books code provider selected looks i
+    (looks ≤ i + provider) × Served marks books code provider selected i
 
 abbrev μ-providers : tie.MeasureT-providers
 μ-providers marks books code partner first last selected₀ looks₀ provider₀ i₀ selected looks provider i = 63 - provider
@@ -67,7 +68,7 @@ returns c =
     }
 
 providers-holds : tie.Need-providers-holds Inv-filters μ-filters Inv-providers μ-providers
-providers-holds c = serve-start (start c .args .marks) (start c .args .books .now) (start c .args .code) (start c .pre)
+providers-holds c = (omega arith, serve-start (start c .args .marks) (start c .args .books .now) (start c .args .code) (start c .pre))
 
 add-provider : tie.Need-add-provider Inv-filters μ-filters Inv-providers μ-providers
 add-provider c = search needs
@@ -80,8 +81,10 @@ providers-less c = search needs
 
 providers-again : tie.Need-providers-again Inv-filters μ-filters Inv-providers μ-providers
 providers-again c =
-    serve-none (c .before .before .before .providers .inv) (c .before .before .providers-test .taken)
-    (sym (c .before .has .ensures) ∙ not-true _ (c .if2 .taken))
+    let s = c .before .before .before .providers .inv in (
+      omega (arith, s .0),
+      serve-none (s .1) (c .before .before .providers-test .taken) (sym (c .before .has .ensures) ∙ not-true _ (c .if2 .taken)),
+    )
 
 cast-own : tie.Need-cast-own Inv-filters μ-filters Inv-providers μ-providers
 cast-own c = search needs
@@ -100,11 +103,13 @@ add-wanted c =
 
 filters-holds : tie.Need-filters-holds Inv-filters μ-filters Inv-providers μ-providers
 filters-holds c =
+    let s = c .before .before .before .providers .inv in
     let e = c .before .before .before .before in
-    let q = e .before .before .before .partner in
-    rw (e .before .before .smaller .ensures, e .before .larger .ensures)
-    (seek-start (c .before .before .before .providers .inv) (c .before .before .providers-test .taken) (q .result)
-    (q .ensures (start e .args .marks)) (small e))
+    let q = e .before .before .before .partner in (
+      omega (arith, s .0),
+      rw (e .before .before .smaller .ensures, e .before .larger .ensures)
+          (seek-start (s .1) (c .before .before .providers-test .taken) (q .result) (q .ensures (start e .args .marks)) (small e)),
+    )
 
 look-at-requires : tie.Need-look-at-requires Inv-filters μ-filters Inv-providers μ-providers
 look-at-requires c κs =
@@ -112,7 +117,7 @@ look-at-requires c κs =
     let f = c .before .filters in (
       sound-length (s .args .marks) (s .args .books .now) (s .pre),
       c .filters-test .taken,
-      come-looks (f .inv .come) (f .inv .once) (search needs),
+      come-looks (f .inv .1 .come) (f .inv .0) (search needs),
     )
 
 before-requires : tie.Need-before-requires Inv-filters μ-filters Inv-providers μ-providers
@@ -127,9 +132,11 @@ filters-less c = search needs
 filters-again : tie.Need-filters-again Inv-filters μ-filters Inv-providers μ-providers
 filters-again c =
     let g = c .before .before .before in
-    let x = c .before .before .look-at in
-    rw (x .ensures .1)
-    (seek-next (g .filters-test .taken) (x .ensures .0) (g .before .filters .inv) _ (c .before .before2 .ensures) (c .if3 .taken))
+    let s = g .before .filters .inv in
+    let x = c .before .before .look-at .ensures in (
+      omega (arith, s .0, x .1),
+      seek-next (g .filters-test .taken) (x .0) (s .1) _ (c .before .before2 .ensures) (c .if3 .taken),
+    )
 
 providers-less-2 : tie.Need-providers-less-2 Inv-filters μ-filters Inv-providers μ-providers
 providers-less-2 c = search needs
@@ -139,10 +146,11 @@ providers-again-2 c =
     let g = c .before .before .before .before .before .before in
     let o = g .before .before .before .before in
     let s = g .before .filters .inv in
-    let x = c .before .before .before .before .before .look-at in
-    serve-skipped (o .before .providers .inv) (o .providers-test .taken) (omega (arith, begun g .if1 .left)) s
-    (omega (arith, x .ensures .1))
-    (seek-found (g .filters-test .taken) (x .ensures .0) s (c .before .if4 .left) (c .if5 .taken))
+    let x = c .before .before .before .before .before .look-at .ensures in (
+      omega (arith, s .0, x .1),
+      serve-skipped (o .before .providers .inv .1) (o .providers-test .taken) (omega (arith, begun g .if1 .left)) (s .1)
+          (seek-found (g .filters-test .taken) (x .0) (s .1) (c .before .if4 .left) (c .if5 .taken)),
+    )
 
 add-i-2 : tie.Need-add-i-2 Inv-filters μ-filters Inv-providers μ-providers
 add-i-2 c = search needs
@@ -153,9 +161,11 @@ filters-less-2 c = search needs
 filters-again-2 : tie.Need-filters-again-2 Inv-filters μ-filters Inv-providers μ-providers
 filters-again-2 c =
     let g = c .before .before .before .before .before .before in
-    let x = c .before .before .before .before .before .look-at in
-    rw (x .ensures .1)
-    (seek-last (g .filters-test .taken) (x .ensures .0) (g .before .filters .inv) (c .before .if4 .left) (c .if5 .left))
+    let s = g .before .filters .inv in
+    let x = c .before .before .before .before .before .look-at .ensures in (
+      omega (arith, s .0, x .1),
+      seek-last (g .filters-test .taken) (x .0) (s .1) (c .before .if4 .left) (c .if5 .left),
+    )
 
 bit-requires : tie.Need-bit-requires Inv-filters μ-filters Inv-providers μ-providers
 bit-requires c κs = search needs
@@ -163,7 +173,7 @@ bit-requires c κs = search needs
 add-selected : tie.Need-add-selected Inv-filters μ-filters Inv-providers μ-providers
 add-selected c =
     let l = c .before .before .before .before .before .before .providers in
-    record { fits = rw (c .bit .ensures, l .inv .chosen) (mask-room _ (l .provider) (search needs)) }
+    record { fits = rw (c .bit .ensures, l .inv .1 .chosen) (mask-room _ (l .provider) (search needs)) }
 
 providers-less-3 : tie.Need-providers-less-3 Inv-filters μ-filters Inv-providers μ-providers
 providers-less-3 c = search needs
@@ -177,23 +187,25 @@ providers-again-3 c =
     let f = c .before .before .filters in
     let ended : (t .looks ≤ f .looks + 1) × (among (f .wanted) (placesFrom (start e .args .books .now) 0) ≡ false)
     = ⊎-elim
-    (λ w. (omega (arith, w .1), come-end (w .0 .left) (f .inv .come)))
+    (λ w. (omega (arith, w .1), come-end (w .0 .left) (f .inv .1 .come)))
     (λ w. (
       omega (arith, w .6, w .1 .ensures .1),
-      seek-past (w .0 .taken) (w .1 .ensures .0) (f .inv) _ (w .2 .ensures) (w .3 .left) (w .5 .taken),
+      seek-past (w .0 .taken) (w .1 .ensures .0) (f .inv .1) _ (w .2 .ensures) (w .3 .left) (w .5 .taken),
     ))
-    (t .came) in
-    serve-selected (o .before .providers .inv) (o .providers-test .taken) (omega (arith, e .if1 .left)) (f .inv) (ended .0)
-    (start e .pre) (sym (h .before .has .ensures) ∙ not-false _ (h .if2 .left)) (ended .1) _ (c .bit .ensures)
+    (t .came) in (
+      omega (arith, f .inv .0, ended .0),
+      serve-selected (o .before .providers .inv .1) (o .providers-test .taken) (omega (arith, e .if1 .left)) (f .inv .1)
+          (start e .pre) (sym (h .before .has .ensures) ∙ not-false _ (h .if2 .left)) (ended .1) _ (c .bit .ensures),
+    )
 
 returns-2 : tie.Need-returns-2 Inv-filters μ-filters Inv-providers μ-providers
 returns-2 c =
     let l = c .before .providers in
     let a = start (c .before .before) .args in
-    let e : l .provider ≡ 63 = (let m : l .provider ≤ 63 = l .inv .most in omega (arith, c .providers-test .left)) in
+    let e : l .provider ≡ 63 = (let m : l .provider ≤ 63 = l .inv .1 .most in omega (arith, c .providers-test .left)) in
     record {
-      selected = l .inv .chosen ∙ ap (maskOf (selects (decodeBooks (a .marks) (a .books .now)) (a .code))) e;
-      once = serve-looks (l .inv);
+      selected = l .inv .1 .chosen ∙ ap (maskOf (selects (decodeBooks (a .marks) (a .books .now)) (a .code))) e;
+      once = serve-looks (l .inv .0) (l .inv .1);
     }
 
 pub one-pass-spec : {M : Type 1} → statement M
