@@ -8,8 +8,9 @@ use borrow.Author.Tests.{lt-ltb, le-ltb, ltb-true, ltb-false, eqb-true, eqb-fals
 use lib.Dec.{eqb, ltb}
 
 -- by provider and then code is by place
-pub rising : (a b : ℕ) → (ltb (a / 2 ^ 20) (b / 2 ^ 20) || (eqb (a / 2 ^ 20) (b / 2 ^ 20) && ltb (a % 2 ^ 20) (b % 2 ^ 20))) ≡ ltb a b
-rising a b = go (ltb (a / 2 ^ 20) (b / 2 ^ 20)) refl
+pub filters-by-place : (a b : ℕ)
+    → (ltb (a / 2 ^ 20) (b / 2 ^ 20) || (eqb (a / 2 ^ 20) (b / 2 ^ 20) && ltb (a % 2 ^ 20) (b % 2 ^ 20))) ≡ ltb a b
+filters-by-place a b = go (ltb (a / 2 ^ 20) (b / 2 ^ 20)) refl
   where
     same : a / 2 ^ 20 ≡ b / 2 ^ 20 → (t : Bool) → ltb (a % 2 ^ 20) (b % 2 ^ 20) ≡ t → t ≡ ltb a b
     same q true e = sym (lt-ltb a b (let h : a % 2 ^ 20 < b % 2 ^ 20 = ltb-true _ _ e in omega arith))

@@ -17,7 +17,7 @@ use Rattle.model.specs.declared.Marks.{Marks}
 use Rattle.books.specs.Packed.{filterPlace, rowPlaces, filterOf, filtersOf, soundBytes}
 use Rattle.books.specs.Places.{restOf, used-none, used-more, used-end, used-length}
 use Rattle.books.specs.Given.{sound-filters}
-use Rattle.books.proofs.Filters.{rising}
+use Rattle.books.proofs.Filters.{filters-by-place}
 use Rattle.selection.specs.Pass.{mostLooks}
 
 -- ---- filters and places
@@ -68,7 +68,8 @@ no-filter p c h (x ∷ xs) = ap₂ (λ (a b : Bool). a || b) (go (eqb (x / 2 ^ 2
 -- filters that rise by provider and then code are places that rise
 places-rise : (k : ℕ) (xs : List ℕ) → filtersAbove (k / 2 ^ 20) (k % 2 ^ 20) (map filterOf xs) ≡ true → above k xs ≡ true
 places-rise k [] e = refl
-places-rise k (x ∷ xs) e = ap₂ (λ (a b : Bool). a && b) (sym (rising k x) ∙ and-l here behind e) (places-rise x xs (and-r here behind e))
+places-rise k (x ∷ xs) e =
+    ap₂ (λ (a b : Bool). a && b) (sym (filters-by-place k x) ∙ and-l here behind e) (places-rise x xs (and-r here behind e))
   where
     here : Bool
     here = ltb (k / 2 ^ 20) (x / 2 ^ 20) || (eqb (k / 2 ^ 20) (x / 2 ^ 20) && ltb (k % 2 ^ 20) (x % 2 ^ 20))

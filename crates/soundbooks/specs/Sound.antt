@@ -15,7 +15,7 @@ use Rattle.model.specs.Books.{Owned, Filter, Split, soundMarks, codesAbove, sou
 use Rattle.model.specs.declared.Marks.{Marks}
 use Rattle.books.specs.Packed.{bookBytes, rowPlaces, splitPlaces, headOf, codePlace, filterPlace, splitPlace, ownedOf, filterOf, splitOf, usedFrom, packedFrom, soundBytes}
 use Rattle.books.specs.Places.{restOf, used-more, used-length}
-use Rattle.books.proofs.Filters.{rising}
+use Rattle.books.proofs.Filters.{filters-by-place}
 use Rattle.entries.specs.Good.{goodCode, goodRow}
 use Rattle.soundbooks.specs.Scan.{Test, chain, scan, scan-is, scan-next, scan-forgets}
 
@@ -55,7 +55,7 @@ filters-chain : (m : Marks) (last : ℕ) (xs : List ℕ)
 filters-chain m last [] = refl
 filters-chain m last (x ∷ xs) =
     four (ltb (last / 2 ^ 20) (x / 2 ^ 20) || (eqb (last / 2 ^ 20) (x / 2 ^ 20) && ltb (last % 2 ^ 20) (x % 2 ^ 20))) _ _ _
-    ∙ ap₂ (λ (t b : Bool). (t && (isProvider (x / 2 ^ 20) && member (m .present) (x / 2 ^ 20) && isCode (x % 2 ^ 20))) && b) (rising last x) (filters-chain m x xs)
+    ∙ ap₂ (λ (t b : Bool). (t && (isProvider (x / 2 ^ 20) && member (m .present) (x / 2 ^ 20) && isCode (x % 2 ^ 20))) && b) (filters-by-place last x) (filters-chain m x xs)
 
 splits-chain : (last : ℕ) (xs : List ℕ) → (splitOnce (map splitOf xs) && all (λ (x : Split). isCode (x .one) && isCode (x .other)) (map splitOf xs)) ≡ chain splitTest last xs
 splits-chain last [] = refl
