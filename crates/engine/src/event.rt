@@ -37,7 +37,7 @@ fn selected(marks: Marks, books: &[u8], e: Event) -> u64
 {
     if opening::is_broadcast(e.kind) {
         let tn = e.tn;
-        return selection::selected(marks, books, books::code_of(tn));
+        return selection::classify(marks, books, books::code_of(tn)).selected;
     }
     0
 }

@@ -13,7 +13,7 @@ fn ten_digits(x: u64) -> bool
     (2_000_000_000 <= x) & (x < 10_000_000_000) & (2 <= x / 1_000_000 % 10)
 }
 
-fn is_tn(tn: Tn) -> bool
+pub fn is_tn(tn: Tn) -> bool
     ensures { λ r. ⌜ r ≡ tenDigits (tn .0) ⌝ }
 {
     ten_digits(tn.0)

@@ -4,6 +4,7 @@ ghost use Rattle.fields.specs.Calls.{event, Handed};
 
 pub mod fault;
 pub mod run;
+pub mod selection;
 pub mod step;
 pub mod version;
 

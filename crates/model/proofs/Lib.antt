@@ -25,6 +25,7 @@ pub mod SoundStep
 pub mod SoundTables
 pub mod Reordering
 pub mod Concurring
+pub mod Asking
 pub mod Effects
 pub mod Owned
 pub mod Entries

@@ -123,3 +123,12 @@ pub enum Outcome {
     Exhausted,
     AnotherDue,
 }
+
+// What selection says of a provider, and why it is not asked. The numbers are those of `classNumber`. [A8.1]
+pub enum Class {
+    Selected,
+    NotPresent,
+    NoLocal,
+    FilterOnly,
+    FiltersBoth,
+}

@@ -1,3 +1,4 @@
 pub mod Places
 pub mod Selects
+pub mod Classing
 pub mod Turns

@@ -16,7 +16,8 @@ use Rattle.systems.specs.Laws.{mask-lt, mask-member, ext}
 use Rattle.model.specs.Basics.{among}
 use Rattle.model.specs.Numbers.{isSet}
 use Rattle.model.specs.Books.{Books, present, runs, partnerOf, filters, soundMarks}
-use Rattle.model.specs.Selection.{skipped, classOf, isSelected, selects, selected, filterOnly, filtersBoth, noLocal, notPresent}
+use Rattle.model.specs.Selection.{skipped, classOf, isSelected, selects}
+use Rattle.model.specs.declared.Class.the-variants.{Selected, NotPresent, NoLocal, FilterOnly, FiltersBoth}
 use Rattle.model.specs.declared.Marks.{Marks}
 use Rattle.model.proofs.SoundSets.{in-set, set-mask}
 use Rattle.providers.specs.MarksLaws.{runs-present, low}
@@ -51,7 +52,7 @@ both-of f c q = go (eqb q 0) refl (ltb c q) refl
 module _ (bk : Books) (c p : ℕ) where
   abbrev selects-as : Bool → Bool → Bool → Bool
   selects-as a b s =
-      isSelected (cond (not a) notPresent (cond (not b) noLocal (cond s (cond (eqb (partnerOf bk c) 0) filterOnly filtersBoth) selected)))
+      isSelected (cond (not a) NotPresent (cond (not b) NoLocal (cond s (cond (eqb (partnerOf bk c) 0) FilterOnly FiltersBoth) Selected)))
 
   selects-is : selects bk c p ≡ selects-as (present bk p) (runs bk p) (skipped bk c p)
   unfolding classOf
@@ -69,7 +70,7 @@ module _ (bk : Books) (c p : ℕ) where
   pub is-skipped : skipped bk c p ≡ true → selects bk c p ≡ false
   is-skipped e = selects-is ∙ ap (selects-as (present bk p) (runs bk p)) e ∙ go (present bk p) (runs bk p) (eqb (partnerOf bk c) 0)
     where
-      go : (a b z : Bool) → isSelected (cond (not a) notPresent (cond (not b) noLocal (cond z filterOnly filtersBoth))) ≡ false
+      go : (a b z : Bool) → isSelected (cond (not a) NotPresent (cond (not b) NoLocal (cond z FilterOnly FiltersBoth))) ≡ false
       go true true true = refl
       go true true false = refl
       go true false z = refl

@@ -1,12 +1,12 @@
-// Which systems a broadcast asks. Nobody else reads the filters. [D5, D6, F2, A2.1]
+// What selection says of each provider, and so which systems a broadcast asks. Nobody else reads the filters. [D5, D6, F2, A2.1, A8.1]
 ghost use mathlib.Core.Path.{_≡_};
 ghost use mathlib.Core.Bool.{true};
 ghost use Prim.Native.Nat.{_+_, _<_};
 ghost use lib.ListN.{length};
-ghost use Rattle.systems.specs.Set.{maskOf};
-ghost use Rattle.model.specs.Selection.{selects};
 ghost use Rattle.books.specs.Packed.{bookBytes, rowPlaces, filterPlace, decodeBooks, soundBytes};
 ghost use Rattle.selection.specs.Pass.{smallerOf, largerOf, comesBefore, mostLooks, Passed};
+ghost use Rattle.selection.specs.Classes.{classIn, Classed};
+use model::Class;
 use model::Marks;
 
 // A filter's place is a number: its provider times this, and its code.
@@ -56,9 +56,10 @@ fn larger(code: u64, partner: u64) -> u64
     code
 }
 
-// The set of the selected, and how often the filter list was looked at.
+// The set of the selected, whether the code stands in a pair, and how often the filter list was looked at.
 struct Pass {
     selected: u64,
+    paired: bool,
     looks: u64,
 }
 
@@ -69,11 +70,13 @@ fn one_pass(marks: Marks, books: &[u8], code: u64) -> Pass
     ensures { λ r. ⌜ Passed (decodeBooks marks (now (books .entry))) code r ⌝ }
 {
     let partner = books::partner(books, code);
+    let paired = partner != 0;
     let first = smaller(code, partner);
     let last = larger(code, partner);
     if last >= CODES {
         return Pass {
             selected: marks.local,
+            paired,
             looks: 0,
         };
     }
@@ -107,13 +110,49 @@ fn one_pass(marks: Marks, books: &[u8], code: u64) -> Pass
         }
         selected += systems::bit(provider);
     }
-    Pass { selected, looks }
+    Pass {
+        selected,
+        paired,
+        looks,
+    }
 }
 
-// The set alone.
-pub fn selected(marks: Marks, books: &[u8], code: u64) -> u64
+// Selection's answer for a code: the set of those of class selected, and what tells the classes of the others apart. A provider that runs a
+// Local SMS and is not selected has a filter on the only code, or on both codes where there is a pair.
+pub struct Classes {
+    pub selected: u64,
+    pub marks: Marks,
+    pub paired: bool,
+}
+
+// The class of each provider, by one pass over the filters. [A8.1]
+pub fn classify(marks: Marks, books: &[u8], code: u64) -> Classes
     requires { ⌜ soundBytes marks (now books) ≡ true ⌝ }
-    ensures { λ r. ⌜ r ≡ maskOf (selects (decodeBooks marks (now (books .entry))) code) 63 ⌝ }
+    ensures { λ r. ⌜ Classed (decodeBooks marks (now (books .entry))) code r ⌝ }
 {
-    one_pass(marks, books, code).selected
+    let pass = one_pass(marks, books, code);
+    Classes {
+        selected: pass.selected,
+        marks,
+        paired: pass.paired,
+    }
+}
+
+// The class that the answer has for a provider: present is asked first, then the Local SMS, then the filters. [A8.1]
+pub fn class_of(c: Classes, provider: u8) -> Class
+    ensures { λ r. ⌜ r ≡ classIn c provider ⌝ }
+{
+    if !systems::has(c.marks.present, provider) {
+        return Class::NotPresent;
+    }
+    if !systems::has(c.marks.local, provider) {
+        return Class::NoLocal;
+    }
+    if systems::has(c.selected, provider) {
+        return Class::Selected;
+    }
+    if c.paired {
+        return Class::FiltersBoth;
+    }
+    Class::FilterOnly
 }

@@ -1,12 +1,13 @@
 -- `selection::one_pass` meets its contract: each need is answered by the law of its turn (proofs/Turns).
 -- Assumes nothing.
 use borrow.Author.Needs.{needs}
-use Prim.Native.Nat.{_+_, _-_, _^_, _≤_, _<_}
+use Prim.Native.Nat.{ℕ, _+_, _-_, _^_, _≤_, _<_}
 use mathlib.Core.Path.{_≡_, sym, ap, _∙_}
-use mathlib.Core.Bool.{false}
+use mathlib.Core.Bool.{false, not}
 use mathlib.Core.Logic.{⊎-elim}
 use native.Mathlib.Omega.{arith}
 use borrow.Author.Tests.{not-true, not-false}
+use lib.Dec.{eqb}
 use Rattle.systems.specs.Set.{maskOf}
 use Rattle.model.specs.Basics.{among}
 use Rattle.model.specs.Selection.{selects}
@@ -21,18 +22,18 @@ use Rattle.selection.proofs.one_pass.Statement.{statement}
 use Rattle.selection.proofs.one_pass.Tie as tie
 
 abbrev Inv-filters : tie.InvT-filters
-Inv-filters marks books code partner first last selected looks₀ provider i₀ own until wanted₀ looks i wanted =
+Inv-filters marks books code partner paired first last selected looks₀ provider i₀ own until wanted₀ looks i wanted =
     (looks < i + provider) × Seeks marks books code provider until i wanted
 
 abbrev μ-filters : tie.MeasureT-filters
-μ-filters marks books code partner first last selected looks₀ provider i₀ own until wanted₀ looks i wanted = rowPlaces - i
+μ-filters marks books code partner paired first last selected looks₀ provider i₀ own until wanted₀ looks i wanted = rowPlaces - i
 
 abbrev Inv-providers : tie.InvT-providers
-Inv-providers marks books code partner first last selected₀ looks₀ provider₀ i₀ selected looks provider i =
+Inv-providers marks books code partner paired first last selected₀ looks₀ provider₀ i₀ selected looks provider i =
     (looks ≤ i + provider) × Served marks books code provider selected i
 
 abbrev μ-providers : tie.MeasureT-providers
-μ-providers marks books code partner first last selected₀ looks₀ provider₀ i₀ selected looks provider i = 63 - provider
+μ-providers marks books code partner paired first last selected₀ looks₀ provider₀ i₀ selected looks provider i = 63 - provider
 
 -- where the loops begin, and what is known there
 abbrev Begun : Type 0
@@ -43,6 +44,10 @@ start e = e .before .before .before .before .before
 
 abbrev begun : tie.In-filters Inv-filters μ-filters Inv-providers μ-providers → Begun
 begun g = g .before .before .before .before .before .before
+
+-- whether the code stands in a pair, as the partner that was found says
+pairs : (q : ℕ) {partner : ℕ} → q ≡ partner → not (eqb q 0) ≡ not (eqb partner 0)
+pairs q h = ap (λ (k : ℕ). not (eqb k 0)) h
 
 small : (e : Begun) → largerOf (start e .args .code) (e .before .before .before .partner .result) < 2 ^ 20
 small e = omega (arith, e .if1 .left, e .before .larger .ensures)
@@ -64,6 +69,7 @@ returns c =
       selected =
           all-run (s .args .marks) (s .args .books .now) (s .args .code) (q .result) (s .pre) (q .ensures (s .args .marks))
           (omega (arith, c .if1 .taken, c .before .larger .ensures));
+      paired = pairs (q .result) (q .ensures (s .args .marks));
       once = omega arith;
     }
 
@@ -201,10 +207,12 @@ providers-again-3 c =
 returns-2 : tie.Need-returns-2 Inv-filters μ-filters Inv-providers μ-providers
 returns-2 c =
     let l = c .before .providers in
-    let a = start (c .before .before) .args in
+    let s = c .before .before in
+    let a = start s .args in
     let e : l .provider ≡ 63 = (let m : l .provider ≤ 63 = l .inv .1 .most in omega (arith, c .providers-test .left)) in
     record {
       selected = l .inv .1 .chosen ∙ ap (maskOf (selects (decodeBooks (a .marks) (a .books .now)) (a .code))) e;
+      paired = pairs (s .before .before .before .partner .result) (s .before .before .before .partner .ensures (a .marks));
       once = serve-looks (l .inv .0) (l .inv .1);
     }
 

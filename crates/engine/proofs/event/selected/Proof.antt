@@ -11,15 +11,15 @@ is-broadcast-requires c κs = search needs
 code-of-requires : tie.Need-code-of-requires
 code-of-requires c κs = search needs
 
-selected-requires : tie.Need-selected-requires
-selected-requires c κs = search needs
+classify-requires : tie.Need-classify-requires
+classify-requires c κs = search needs
 
 returns : tie.Need-returns
-returns c = λ _. selected-is _ _ _ _ _ (c .before .code-of .ensures) (c .selected .ensures)
+returns c = λ _. selected-is _ _ _ _ _ (c .before .code-of .ensures) (c .classify .ensures .selected)
 
 returns-2 : tie.Need-returns-2
 returns-2 c = λ k. clash (sym (sym (c .before .is-broadcast .ensures) ∙ c .if1 .left) ∙ k)
 
 pub selected-spec : {M : Type 1} → statement M
 selected-spec =
-    tie.close (tie.spec is-broadcast-requires code-of-requires selected-requires returns returns-2)
+    tie.close (tie.spec is-broadcast-requires code-of-requires classify-requires returns returns-2)
