@@ -46,30 +46,31 @@ same-numbers f g (suc n) h =
 
 -- ---- what is answered
 
--- the list as it was read, and what was said of the books
-module _ (p b xs : List ℕ) (tn : ℕ) (l : Listed) (hl : l ≡ listed (map entryOf p)) (k : Bool) (hk : k ≡ soundBytes (l .marks) b) where
-  answer-is : (a : Bool) → (l .sound && k) ≡ a → answerFor p b tn (length xs) ≡ cond a (cond (tenDigits tn && eqb (length xs) 63) 0 2) 1
+-- the list as it was read, and what was said of it and the books
+module _ (p b xs : List ℕ) (tn : ℕ) (l : Listed) (hl : l ≡ listed (map entryOf p))
+    (s : Bool) (hs : s ≡ (l .sound && soundBytes (l .marks) b)) where
+  answer-is : (a : Bool) → s ≡ a → answerFor p b tn (length xs) ≡ cond a (cond (tenDigits tn && eqb (length xs) 63) 0 2) 1
   unfolding answerFor
   answer-is a e =
       ap (λ (x : Bool). cond x (cond (tenDigits tn && eqb (length xs) 63) 0 2) 1)
-      (ap (λ (x : Listed). x .sound && soundBytes (x .marks) b) (sym hl) ∙ ap (λ (x : Bool). l .sound && x) (sym hk) ∙ e)
+      (ap (λ (x : Listed). x .sound && soundBytes (x .marks) b) (sym hl) ∙ sym hs ∙ e)
 
   -- refused, with nothing written
   refuses : (n : ℕ) → answerFor p b tn (length xs) ≡ suc n → Classified p b tn xs xs (suc n)
   refuses n e = record { said = sym e; wrote = rw (e, ne-eqb (suc n) 0 (λ q. omega arith)) }
 
-  pub unsound : (l .sound && k) ≡ false → Classified p b tn xs xs 1
+  pub unsound : s ≡ false → Classified p b tn xs xs 1
   unsound e = refuses 0 (answer-is false e)
 
-  module _ (e : (l .sound && k) ≡ true) (t : Bool) (ht : t ≡ tenDigits tn) where
-    formed-is : (a : Bool) → (t && eqb (length xs) 63) ≡ a → answerFor p b tn (length xs) ≡ cond a 0 2
-    formed-is a f =
-        answer-is true e ∙ ap (λ (x : Bool). cond x 0 2) (ap (λ (x : Bool). x && eqb (length xs) 63) (sym ht) ∙ f)
+  -- sound, and what was said of the number and the places
+  module _ (e : s ≡ true) (t : Bool) (ht : t ≡ (tenDigits tn && eqb (length xs) 63)) where
+    formed-is : (a : Bool) → t ≡ a → answerFor p b tn (length xs) ≡ cond a 0 2
+    formed-is a f = answer-is true e ∙ ap (λ (x : Bool). cond x 0 2) (sym ht ∙ f)
 
-    pub malformed : (t && eqb (length xs) 63) ≡ false → Classified p b tn xs xs 2
+    pub malformed : t ≡ false → Classified p b tn xs xs 2
     malformed f = refuses 1 (formed-is false f)
 
-    pub classified : (t && eqb (length xs) 63) ≡ true → (code : ℕ) → code ≡ codeOf (record { 0 = tn }) → (c : Classes)
+    pub classified : t ≡ true → (code : ℕ) → code ≡ codeOf (record { 0 = tn }) → (c : Classes)
         → Classed (decodeBooks (l .marks) b) code c → (ys : List ℕ) → ys ≡ numbersOf (classIn c) 63 → Classified p b tn xs ys 0
     classified f code hc c h ys hy = record {
       said = sym (formed-is true f);

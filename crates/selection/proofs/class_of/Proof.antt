@@ -8,18 +8,18 @@ use Rattle.systems.specs.Set.{member}
 use Rattle.selection.proofs.class_of.Statement.{statement}
 use Rattle.selection.proofs.class_of.Tie as tie
 
+has-requires : tie.Need-has-requires
+has-requires c κs = search needs
+
+returns : tie.Need-returns
+returns c = rw (sym (c .before .has .ensures) ∙ not-true _ (c .if1 .taken))
+
 -- what has been seen where the code goes on: it is present, it runs a Local SMS, it is not selected
 present : (c : tie.Else1) → member (c .before .before .args .c .marks .present) (c .before .before .args .provider) ≡ true
 present c = sym (c .before .has .ensures) ∙ not-false _ (c .if1 .left)
 
 runs : (c : tie.Else2) → member (c .before .before .before .before .args .c .marks .local) (c .before .before .before .before .args .provider) ≡ true
 runs c = sym (c .before .has2 .ensures) ∙ not-false _ (c .if2 .left)
-
-has-requires : tie.Need-has-requires
-has-requires c κs = search needs
-
-returns : tie.Need-returns
-returns c = rw (sym (c .before .has .ensures) ∙ not-true _ (c .if1 .taken))
 
 has-requires-2 : tie.Need-has-requires-2
 has-requires-2 c κs = search needs
