@@ -417,6 +417,23 @@ Work filterPass(const std::shared_ptr<Lent> &l) {
     return [=] { sink = plain_pass(l->books.data() + FILTERS_AT, SPLITS_AT - FILTERS_AT); };
 }
 
+#ifdef TEST_SELECTION
+// The class of each provider, with the pass over the books' bytes.
+void selectionRow(const std::string &name, const Situation &s) {
+    auto l = std::make_shared<Lent>(s, 64, PLACES, Bytes());
+    auto classes = std::make_shared<Bytes>(CLASS_PLACES, 0x5a), other = std::make_shared<Bytes>(*classes);
+    const uint8_t *p = l->providers.data(), *b = l->books.data();
+    uint64_t tn = s.table.used[0].tn.digits;
+    auto call = [=](auto select, const std::shared_ptr<Bytes> &out) {
+        return select(p, l->providers.size(), b, BOOKS, tn, out->data(), out->size());
+    };
+    mustAgree(call(lupinenblatt_selection, classes) == 0 && call(hand_selection, other) == 0 && *classes == *other, name);
+    addRow(name, {plan(100, [l] {}, {often(10, [=] { sink = call(lupinenblatt_selection, classes); }),
+                                     often(10, [=] { sink = call(hand_selection, other); }),
+                                     often(10, [=] { sink = plain_pass(b, BOOKS); }), often(10, filterPass(l))})});
+}
+#endif
+
 void selections() {
     lines.push_back([] { std::printf("\n%-52s|     /hand    /pass /filters\n", "selection (at 64 rows)"); });
     for (const auto &[name, lists] : SELECTIONS) {
@@ -424,6 +441,9 @@ void selections() {
         auto l = std::make_shared<Lent>(s, 64, PLACES, activations(s));
         addRow(std::string("step, activate, ") + name, {planStep(l, 64, DONE, name, {filterPass(l)})});
     }
+#ifdef TEST_SELECTION
+    for (const auto &[name, lists] : SELECTIONS) selectionRow(std::string("selection, ") + name, toActivate(lists, 64));
+#endif
 }
 
 // ---- Many events in one call ----
@@ -545,8 +565,8 @@ int main(int argc, char **argv) {
 #endif
     for (size_t i = 0; i < rounds; i++)
         for (const Measured &m : measures) m->round();
-    std::printf("ratios of times: ours / written by hand in C, ours / a plain pass over the table's bytes (books check: the books';\n"
-                "/filters: the filter list's); below 1 ours is faster\n");
+    std::printf("ratios of times: ours / written by hand in C, ours / a plain pass over the table's bytes (books check and selection: the\n"
+                "books'; /filters: the filter list's); below 1 ours is faster\n");
     printHead();
     for (const Work &line : lines) line();
     for (const std::string &what : differing) std::printf("THE TWO DIFFER: %s\n", what.c_str());

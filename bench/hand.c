@@ -17,10 +17,12 @@ enum { CREATION = 1, STATUS, ATTRIBUTES, DOWNLOAD_CREATE, WINDOW_NOTICE = 7 };  
 enum { YES = 1, NO = 2 };
 enum { ACTIVATE = 1, MODIFY, DISCONNECT };
 enum { NEW_SIDE = 1, OLD_SIDE = 2, NPAC = 4 };  /* standings; the first two are cancellers too */
+enum { SELECTED, NOT_PRESENT, NO_LOCAL, FILTER_ONLY, FILTERS_BOTH };
 
 /* The numbers above and the layouts below are those that sizes.h counts. */
 _Static_assert((int)PURGE == KINDS && CANCELED + 1 == STATUSES && (int)WINDOW_NOTICE == SORTS && DISCONNECT + 1 == PURPOSES, "numbers");
 _Static_assert(OLD_SIDE + 1 == CANCELLERS && NO + 1 == MARKS && PROVIDERS == 63 && MOST_RETRIES == 7, "numbers");
+_Static_assert(FILTERS_BOTH + 1 == CLASSES && (int)CLASS_PLACES == (int)PROVIDERS, "numbers");
 _Static_assert(ROW == 80 && MESSAGE == 24 && RECORD == 24 && FIELDS == 10 && STATUS_VALUES == 16, "layouts");
 _Static_assert(CODES_AT == 8 && FILTERS_AT == CODES_AT + 4 * CODES && FILTERS % 8 == 0 && SPLITS_AT == FILTERS_AT + 4 * FILTERS
                && BOOKS == SPLITS_AT + 8 * SPLITS, "layouts");
@@ -278,39 +280,42 @@ static uint32_t partner_of(const books_t *b, uint32_t code)
     return 0;
 }
 
-/*
- * The providers with a filter on this code. Eight places at a time are compared as they stand, without exchanging bytes; only where one of
- * them has the code they are looked at one by one. Places behind the last used one are zero and name no code.
- */
-static uint64_t filtered(const books_t *b, uint32_t code)
+/* A code as it stands in a filter's place, without the provider. */
+static inline uint32_t raw_code(uint32_t code)
 {
+    uint8_t bytes[4] = {0, (uint8_t)(code >> 16), (uint8_t)(code >> 8), (uint8_t)code};
+    return raw32(bytes);
+}
+
+/*
+ * The providers that filters skip for a code and its partner: one pass for both, where a code without a partner (0) is its own. Eight
+ * places at a time are compared as they stand, without exchanging bytes; only where one of them has a code they are looked at one by one.
+ * Places behind the last used one are zero and name no code.
+ */
+static uint64_t skipped(const books_t *b, uint32_t code, uint32_t partner)
+{
+    if (partner == 0) partner = code;
     const uint8_t *filters = b->at + FILTERS_AT;
-    uint8_t raw[4] = {0x00, 0x0f, 0xff, 0xff}, sought[4] = {0, (uint8_t)(code >> 16), (uint8_t)(code >> 8), (uint8_t)code};
-    uint32_t mask, wanted;
-    memcpy(&mask, raw, 4);
-    memcpy(&wanted, sought, 4);
-    uint64_t found = 0;
+    uint32_t mask = raw_code(0xfffff), one = raw_code(code), two = raw_code(partner);
+    uint64_t by_one = 0, by_two = 0;
     for (size_t i = 0; i < b->filters; i += 8) {
         uint32_t group[8], any = 0;
         memcpy(group, filters + 4 * i, 32);
-        for (int k = 0; k < 8; k++) any |= (group[k] & mask) == wanted;
+        for (int k = 0; k < 8; k++) any |= ((group[k] & mask) == one) | ((group[k] & mask) == two);
         if (!any) continue;
         for (size_t k = i; k < i + 8; k++) {
             uint32_t entry = load32(filters + 4 * k);
-            if ((entry & 0xfffff) == code) found |= (uint64_t)1 << (entry >> 20 & 63);
+            uint64_t bit = (uint64_t)1 << (entry >> 20 & 63);
+            if ((entry & 0xfffff) == code) by_one |= bit;
+            if ((entry & 0xfffff) == partner) by_two |= bit;
         }
     }
-    return found;
+    return by_one & by_two;
 }
 
 static uint64_t selected(const books_t *b, uint32_t code)
 {
-    uint64_t skipped = filtered(b, code);
-    if (skipped != 0) {
-        uint32_t partner = partner_of(b, code);
-        if (partner != 0) skipped &= filtered(b, partner);
-    }
-    return b->local & ~skipped;
+    return b->filters == 0 ? b->local : b->local & ~skipped(b, code, partner_of(b, code));
 }
 
 /* ---- The event record ---- */
@@ -821,4 +826,20 @@ uint8_t hand_books_check(const uint8_t *providers, size_t providers_length, cons
 {
     books_t b;
     return !check_books(providers, providers_length, books, books_length, &b);
+}
+
+/* The class by three bits: present, runs a Local SMS, skipped. */
+uint8_t hand_selection(const uint8_t *providers, size_t providers_length, const uint8_t *books, size_t books_length, uint64_t tn,
+                       uint8_t *classes, size_t classes_length)
+{
+    books_t b;
+    if (!check_books(providers, providers_length, books, books_length, &b)) return 1;
+    if (not_ten_digits(tn) || classes_length != CLASS_PLACES) return 2;
+    uint32_t code = (uint32_t)(tn / 10000), partner = partner_of(&b, code);
+    uint64_t skips = skipped(&b, code, partner);
+    const uint8_t by_bits[8] = {NOT_PRESENT, NO_LOCAL, NOT_PRESENT, SELECTED, NOT_PRESENT, NO_LOCAL, NOT_PRESENT,
+                                partner != 0 ? FILTERS_BOTH : FILTER_ONLY};
+    for (unsigned p = 1; p <= PROVIDERS; p++)
+        classes[p - 1] = by_bits[(b.present >> p & 1) | (b.local >> p & 1) << 1 | (skips >> p & 1) << 2];
+    return 0;
 }

@@ -26,6 +26,10 @@ lupinenblatt_answer hand_table_check(const uint8_t *table, size_t table_len);
 /* 0 sound, 1 not. */
 uint8_t hand_books_check(const uint8_t *providers, size_t providers_len, const uint8_t *books, size_t books_len);
 
+/* 0 and the class of provider n in byte n - 1, or 1 or 2. */
+uint8_t hand_selection(const uint8_t *providers, size_t providers_len, const uint8_t *books, size_t books_len, uint64_t tn,
+                       uint8_t *classes, size_t classes_len);
+
 uint8_t hand_record_read(const uint8_t *bytes, size_t length, uint64_t *fields, size_t places);
 
 uint8_t hand_record_write(uint64_t kind, uint64_t sender, uint64_t other, uint64_t mark, uint64_t cause, uint64_t tn, uint64_t lrn,

@@ -30,6 +30,12 @@ uint8_t lupinenblatt_books_check(const uint8_t *providers, size_t providers_len,
     return hand_books_check(providers, providers_len, books, books_len);
 }
 
+uint8_t lupinenblatt_selection(const uint8_t *providers, size_t providers_len, const uint8_t *books, size_t books_len, uint64_t tn,
+                               uint8_t *classes, size_t classes_len)
+{
+    return hand_selection(providers, providers_len, books, books_len, tn, classes, classes_len);
+}
+
 uint8_t lupinenblatt_record_read(const uint8_t *bytes, size_t length, uint64_t *fields, size_t places)
 {
     return hand_record_read(bytes, length, fields, places);

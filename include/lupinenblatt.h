@@ -27,9 +27,9 @@ extern "C" {
 
 /* The version of header and library; docs/LAYOUTS.md says what each part counts. */
 #define LUPINENBLATT_VERSION_MAJOR 0
-#define LUPINENBLATT_VERSION_MINOR 4
+#define LUPINENBLATT_VERSION_MINOR 5
 #define LUPINENBLATT_VERSION_PATCH 0
-#define LUPINENBLATT_VERSION "0.4.0"
+#define LUPINENBLATT_VERSION "0.5.0"
 #define LUPINENBLATT_VERSION_NUMBER (1000000 * LUPINENBLATT_VERSION_MAJOR + 1000 * LUPINENBLATT_VERSION_MINOR + LUPINENBLATT_VERSION_PATCH)
 
 /* Outcome numbers. */
@@ -152,6 +152,14 @@ extern "C" {
 #define LUPINENBLATT_CANCELLER_NOBODY 0
 #define LUPINENBLATT_CANCELLER_NEW 1
 #define LUPINENBLATT_CANCELLER_OLD 2
+
+/* The classes that lupinenblatt_selection tells of the providers, and the bytes of its slice. */
+#define LUPINENBLATT_CLASS_SELECTED 0      /* selected */
+#define LUPINENBLATT_CLASS_NOT_PRESENT 1   /* not present */
+#define LUPINENBLATT_CLASS_NO_LOCAL 2      /* no Local SMS */
+#define LUPINENBLATT_CLASS_FILTER_ONLY 3   /* filter on the only code */
+#define LUPINENBLATT_CLASS_FILTERS_BOTH 4  /* filters on both codes */
+#define LUPINENBLATT_CLASSES 63            /* exactly: byte n - 1 is provider n */
 
 /*
  * The clauses that lupinenblatt_table_fault tells, in the order in which they are judged of a row; docs/FAULTS.md says them in full.
@@ -294,6 +302,21 @@ lupinenblatt_answer lupinenblatt_table_check(const uint8_t *table, size_t table_
  * Whether bytes are a sound provider list and sound books: LUPINENBLATT_DONE or LUPINENBLATT_UNSOUND. A step makes this check itself.
  */
 uint8_t lupinenblatt_books_check(const uint8_t *providers, size_t providers_length, const uint8_t *books, size_t books_length);
+
+/*
+ * Why a provider gets the downloads of a TN or does not: the class of each provider by this provider list and these books.
+ *
+ * It returns LUPINENBLATT_UNSOUND where the provider list or the books are unsound; otherwise LUPINENBLATT_MALFORMED where `tn` is no TN,
+ * whose low bits are never taken for one, or `classes` is not exactly 63 bytes. With either nothing is written.
+ *
+ * Otherwise it returns LUPINENBLATT_DONE, and byte n - 1 of `classes` is the LUPINENBLATT_CLASS_.. of provider n. Asked is in this order:
+ * whether the provider is present, which nobody is behind the end of the provider list; whether it runs a Local SMS; whether its filters
+ * skip it, by a filter on the TN's code where that stands in no pair, by filters on both codes of the pair where it stands in one. With a
+ * filter on one code of a pair it is selected. An event that activates, modifies or disconnects a version of this TN sends its downloads to
+ * exactly the selected providers, a resend to those of them that had failed. Provider list and books are only read.
+ */
+uint8_t lupinenblatt_selection(const uint8_t *providers, size_t providers_length, const uint8_t *books, size_t books_length, uint64_t tn,
+                               uint8_t *classes, size_t classes_length);
 
 /*
  * Where something is at fault: the number of the clause that fails, the place of the row or entry at fault, and a second place. Places count
@@ -638,6 +661,12 @@ static inline const char *lupinenblatt_canceller_name(uint64_t canceller)
 {
     static const char *const names[] = {"nobody", "new side", "old side"};
     return canceller < sizeof names / sizeof *names ? names[canceller] : "no canceller";
+}
+
+static inline const char *lupinenblatt_class_name(uint64_t number)
+{
+    static const char *const names[] = {"selected", "not present", "no Local SMS", "filter on the only code", "filters on both codes"};
+    return number < sizeof names / sizeof *names ? names[number] : "no class";
 }
 
 /* Words for the clauses of lupinenblatt_table_fault and lupinenblatt_books_fault. */

@@ -1,7 +1,7 @@
 /*
  * The calls for C that the tests make. include/lupinenblatt.h declares them; the declarations below stand for those that it lacks (tests/flags
- * sees which and sets LUPINENBLATT_HEADER_HAS_..). TEST_CHECKS, TEST_FAULTS and TEST_RUN say whether the calls of that name are tested: they
- * are where the header declares them or something stands in for the library.
+ * sees which and sets LUPINENBLATT_HEADER_HAS_..). TEST_CHECKS, TEST_SELECTION, TEST_FAULTS and TEST_RUN say whether the calls of that name
+ * are tested: they are where the header declares them or something stands in for the library.
  */
 #ifndef LUPINENBLATT_TESTS_CALLS_H
 #define LUPINENBLATT_TESTS_CALLS_H
@@ -34,6 +34,15 @@ lupinenblatt_answer lupinenblatt_table_check(const uint8_t *table, size_t table_
 
 /* 0 where provider list and books are sound, otherwise 1. */
 uint8_t lupinenblatt_books_check(const uint8_t *providers, size_t providers_length, const uint8_t *books, size_t books_length);
+#endif
+
+#ifndef LUPINENBLATT_HEADER_HAS_SELECTION
+/*
+ * 1 where provider list or books are unsound, otherwise 2 where the number is no TN or the slice is not 63 bytes; nothing is written then.
+ * Otherwise 0 and the class of provider n in byte n - 1.
+ */
+uint8_t lupinenblatt_selection(const uint8_t *providers, size_t providers_length, const uint8_t *books, size_t books_length, uint64_t tn,
+                               uint8_t *classes, size_t classes_length);
 #endif
 
 #ifndef LUPINENBLATT_HEADER_HAS_FAULTS

@@ -3,7 +3,7 @@
 //     compare [events] [seed] [first sequence]
 //
 // Sequences of events over sound situations, with damaged slices between; neighbours exchanged as demand 3 allows; many events in one call;
-// the checks of soundness alone, and where something is unsound; records; the 35 flows.
+// the checks of soundness alone, and where something is unsound; the class that selection gives each provider; records; the 35 flows.
 // Sequence n of a seed is always the same, so a difference is replayed with its seed and its number.
 #include <cstdio>
 #include <cstring>
@@ -26,12 +26,19 @@ struct Slices {
     bool shortCall = false;  // the call without R
 };
 
+// What selection was asked, and why a provider has its class, as far as they are counted apart.
+enum Asked : size_t { TOLD, OF_UNSOUND, NO_TN, ANOTHER_LENGTH, UNSOUND_AND_NO_TN, UNSOUND_AND_ANOTHER_LENGTH, ASKED };
+enum Reason : size_t { FREE, OWN_CODE_OF_PAIR, OTHER_CODE_OF_PAIR, ABSENT_IN_LIST, BEHIND_LIST, NO_SYSTEM, NO_SYSTEM_AND_FILTER,
+                       NO_SYSTEM_AND_FILTERS, ONE_FILTER, TWO_FILTERS, REASONS };
+
 struct Tally {
     uint64_t events = 0, differ = 0, records = 0, exchanged = 0, unsoundAfter = 0, checks = 0, runs = 0, stops = 0;
     uint64_t outcomes[KINDS + 2][OUTCOMES + 1] = {};  // by kind (the first and the last: no kind) and outcome (the last: no outcome)
     uint64_t tableFaults[TABLE_CLAUSES + 2] = {}, booksFaults[BOOKS_CLAUSES + 2] = {};  // by number (the last: no number)
     uint64_t shortCalls = 0, shortSilences[MOST_RETRIES + 1] = {};  // calls without R; their accepted silences by the retries used before
     uint64_t concurring[3][2] = {};  // creates that concur (by new in pending, by new in conflict, by old): done, another due date
+    uint64_t selections[ASKED] = {}, reasons[REASONS] = {};  // calls of selection; the providers that it told a class of, by reason
+    uint64_t broadcast[CLASSES] = {}, resent[CLASSES] = {};  // by class: providers at kinds 5, 9, 10; failed systems at a resend
     uint64_t seed = 0, sequence = 0;
 } tally;
 
@@ -109,11 +116,165 @@ std::optional<Version> concursWith(const std::optional<Table> &table, const std:
     return v && fits(*v, *e) ? std::optional<Version>(*v) : std::nullopt;
 }
 
+// ---- Selection ----
+
+#ifdef TEST_SELECTION
+// For what is asked beside the events' own numbers. It follows from the seed and the sequence; the events do not depend on it.
+Dice asking(0);
+
+Reason reasonOf(const Books &b, Provider p, Tn tn) {
+    std::optional<Code> partner = partnerOf(b, codeOf(tn));
+    bool own = hasFilter(b, p, codeOf(tn)), other = partner && hasFilter(b, p, *partner);
+    if (p > b.providers.size()) return BEHIND_LIST;
+    if (!present(b, p)) return ABSENT_IN_LIST;
+    if (!runsLocalSms(b, p)) return own && !partner ? NO_SYSTEM_AND_FILTER : own && other ? NO_SYSTEM_AND_FILTERS : NO_SYSTEM;
+    if (!partner) return own ? ONE_FILTER : FREE;
+    return own && other ? TWO_FILTERS : own ? OWN_CODE_OF_PAIR : other ? OTHER_CODE_OF_PAIR : FREE;
+}
+
+// The class of a reason, which must be the one that the model gives.
+constexpr Class CLASS_OF[REASONS] = {SELECTED, SELECTED, SELECTED, NOT_PRESENT, NOT_PRESENT, NO_LOCAL_SMS, NO_LOCAL_SMS, NO_LOCAL_SMS,
+                                     FILTER_ON_THE_ONLY_CODE, FILTERS_ON_BOTH_CODES};
+
+// Counts a call; false where the counts and the model disagree on a class.
+bool countSelection(const std::optional<Books> &books, uint64_t tn, size_t places, const Selection &model) {
+    bool noTn = !tenDigits(tn), length = places != CLASS_PLACES;
+    if (model.outcome == UNSOUND) tally.selections[noTn ? UNSOUND_AND_NO_TN : length ? UNSOUND_AND_ANOTHER_LENGTH : OF_UNSOUND]++;
+    else tally.selections[noTn ? NO_TN : length ? ANOTHER_LENGTH : TOLD]++;
+    for (size_t i = 0; i < model.classes.size(); i++) {
+        Reason reason = reasonOf(*books, i + 1, Tn{tn});
+        tally.reasons[reason]++;
+        if (CLASS_OF[reason] != model.classes[i]) return false;
+    }
+    return true;
+}
+
+// One call on these slices, the classes between guard bytes: its answer, the classes (then the library's), and that it writes nothing else.
+bool compareSelection(const Slices &s, const std::optional<Books> &books, uint64_t tn, size_t places, Bytes &classes) {
+    constexpr size_t EDGE = 16;
+    Bytes providers = s.providers, lists = s.books, out(places + 2 * EDGE), out2;
+    for (uint8_t &byte : out) byte = uint8_t(0xa0 + asking.below(64));
+    out2 = out;
+    uint64_t said = lupinenblatt_selection(at(providers), providers.size(), at(lists), lists.size(), tn, out.data() + EDGE, places);
+    Selection model = selection(books, tn, places);
+    std::copy(model.classes.begin(), model.classes.end(), out2.begin() + long(EDGE));
+    classes.assign(out.begin() + long(EDGE), out.end() - long(EDGE));
+    const char *what = said != model.outcome ? "selection: outcome" : out != out2 ? "selection: classes"
+        : providers != s.providers || lists != s.books ? "selection: a slice that is only read was written to"
+        : !countSelection(books, tn, places, model) ? "selection: counted as another class" : nullptr;
+    if (!what) return true;
+    report(what, s, Bytes());
+    if (tally.differ > 1) return false;
+    std::printf("TN %llu, %zu bytes\nmodel: outcome %llu, %s\nlibrary: outcome %llu, %s\n", (unsigned long long)tn, places,
+                (unsigned long long)model.outcome, hexOf(out2.data(), out2.size()).c_str(), (unsigned long long)said,
+                hexOf(out.data(), out.size()).c_str());
+    return false;
+}
+
+// A number that is hardly ever a TN: higher bits before this one, digits before it, digits cut off, one of them 0 or 1; edges; any.
+uint64_t hardlyTn(Dice &d, uint64_t tn) {
+    static const std::vector<uint64_t> edges = {0, 1, 1999999999, 2000000000, 2001999999, 2002000000, 9991999999, 9999999999, 10000000000,
+                                                ~uint64_t(0)};
+    switch (d.below(6)) {
+    case 0: return tn + (uint64_t(1) << d.between(34, 63));
+    case 1: return tn + 10000000000 * d.between(1, 1844674406);
+    case 2: return d.chance(50) ? tn / 10 : tn / 10000;
+    case 3: return badDigits(d, tn);
+    case 4: return d.pick(edges);
+    default: return d.next() >> d.below(64);
+    }
+}
+
+// A TN of another code: of a filter, of a pair, any.
+uint64_t otherTn(Dice &d, const std::optional<Books> &books) {
+    uint64_t line = d.below(10000);
+    if (books && !books->filters.empty() && d.chance(50)) return d.pick(books->filters).code * 10000 + line;
+    if (!books || books->splits.empty() || d.chance(20)) return anyTenDigits(d);
+    const SplitEntry &pair = d.pick(books->splits);
+    return (d.chance(50) ? pair.one : pair.two) * 10000 + line;
+}
+
+// The class of each provider for an event's number, and now and then for another, or with a slice of another length.
+bool compareSelections(const Slices &s, const std::optional<Books> &books, uint64_t tn, Bytes &classes) {
+    static const std::vector<size_t> lengths = {0, 1, 62, 62, 64, 64, 126};
+    Bytes others;
+    if (!compareSelection(s, books, tn, CLASS_PLACES, classes)) return false;
+    if (asking.chance(75)) return true;
+    uint64_t way = asking.below(100), other = way < 40 ? hardlyTn(asking, tn) : way < 75 ? otherTn(asking, books) : tn;
+    size_t places = way < 30 || (way >= 40 && way < 70) ? CLASS_PLACES : asking.chance(90) ? asking.pick(lengths) : asking.below(200);
+    return compareSelection(s, books, other, places, others);
+}
+
+// What selection says before an event, and the failed set that its version has then.
+struct Before {
+    Bytes classes;
+    Systems failed;
+};
+
+// [A8.2] Of the library's own answers: downloads of kinds 5, 9 and 10 go to the selected, those of 14 to the selected that had failed.
+const char *downloadsFault(uint64_t kind, const Before &before, const lupinenblatt_answer &library, const Bytes &tray) {
+    Systems asked, chosen;
+    for (uint64_t i = 0; i < library.count; i++) {
+        Message m = unpackMessage(tray.data() + i * MESSAGE);
+        if (m.localSms && m.sort >= DOWNLOAD_CREATE && m.sort <= DOWNLOAD_DELETE) asked.insert(m.provider);
+    }
+    for (Provider p = 1; p <= PROVIDERS; p++) {
+        if (kind == RESEND && !before.failed.count(p)) continue;
+        uint8_t number = before.classes[p - 1];
+        if (number == SELECTED) chosen.insert(p);
+        (kind == RESEND ? tally.resent : tally.broadcast)[number]++;
+    }
+    return asked == chosen ? nullptr : "selection and the downloads";
+}
+
+// The number of an event, whatever its record is.
+uint64_t numberIn(const uint8_t *record, size_t length) {
+    if (length < 8) return 0;
+    WordReader w(record);
+    w.take(30);
+    return w.take(34);
+}
+
+bool lookBefore(const Slices &s, const Bytes &record, std::optional<Table> &table, const std::optional<Books> &books, Before &before) {
+    std::optional<Event> e = unpackEvent(record.data(), record.size());
+    const Version *v = table && e && e->kind == RESEND ? findVersion(*table, e->tn, e->version) : nullptr;
+    before.failed = v ? v->failed : Systems();
+    return compareSelections(s, books, numberIn(record.data(), record.size()), before.classes);
+}
+
+// After it: whether a broadcast went where selection had said.
+const char *lookAfter(const Slices &s, const Bytes &record, const Before &before, const lupinenblatt_answer &library) {
+    uint64_t kind = record.empty() ? 0 : record[0];
+    bool broadcasts = kind == ACTIVATES || kind == MODIFIES_ACTIVE || kind == DISCONNECTS || kind == RESEND;
+    return broadcasts && library.outcome == DONE ? downloadsFault(kind, before, library, s.tray) : nullptr;
+}
+
+// The same for every number of these records, without an event.
+bool lookAtAll(const Slices &s, const Bytes &records) {
+    std::optional<Books> books = unpackBooks(s.providers.data(), s.providers.size(), s.books.data(), s.books.size());
+    std::set<uint64_t> numbers;
+    Bytes classes;
+    for (size_t from = 0; from + RECORD <= records.size(); from += RECORD) numbers.insert(numberIn(records.data() + from, RECORD));
+    for (uint64_t tn : numbers)
+        if (!compareSelections(s, books, tn, classes)) return false;
+    return true;
+}
+#else
+struct Before {};
+bool lookBefore(const Slices &, const Bytes &, std::optional<Table> &, const std::optional<Books> &, Before &) { return true; }
+const char *lookAfter(const Slices &, const Bytes &, const Before &, const lupinenblatt_answer &) { return nullptr; }
+bool lookAtAll(const Slices &, const Bytes &) { return true; }
+#endif
+
+// ---- Events ----
+
 // One event through both. The slices are the library's, table and books the model's. False where they differ.
 bool compareStep(Slices &s, const Bytes &record, std::optional<Table> &table, const std::optional<Books> &books, Result &model,
                  lupinenblatt_answer &library) {
     static Slices before;
     static Bytes table2, tray2;
+    Before said;
+    if (!lookBefore(s, record, table, books, said)) return false;
     before = s;
     library = callLibrary(s, record);
     std::optional<Event> e = unpackEvent(record.data(), record.size());
@@ -133,7 +294,7 @@ bool compareStep(Slices &s, const Bytes &record, std::optional<Table> &table, co
     bool counted = counts(record.empty() ? 0 : record[0], model.outcome);
     const char *what = library.outcome != model.outcome ? "outcome" : library.count != model.messages.size() ? "count"
         : s.table != table2 ? "table" : s.tray != tray2 ? "tray" : s.providers != before.providers ? "providers written to"
-        : s.books != before.books ? "books written to" : !counted ? UNCOUNTED : nullptr;
+        : s.books != before.books ? "books written to" : !counted ? UNCOUNTED : lookAfter(s, record, said, library);
     if (model.outcome == DONE && !sound(*table)) what = "the model leaves an unsound table", tally.unsoundAfter++;
     if (!what) return true;
     report(what, before, record);
@@ -423,6 +584,7 @@ ModelRan modelRun(const Slices &s, const Bytes &events, const Bytes &outcomes) {
 bool compareRun(Slices &s, const Bytes &events, Bytes outcomes, uint64_t &done) {
     Slices before = s;
     Bytes events2 = events;
+    if (!lookAtAll(s, events)) return false;
     ModelRan m = modelRun(s, events, outcomes);
     lupinenblatt_ran a = lupinenblatt_run(at(s.table), s.table.size(), at(s.providers), s.providers.size(), at(s.books), s.books.size(), s.R,
                                           at(events2), events2.size(), at(s.tray), s.tray.size(), at(outcomes), outcomes.size());
@@ -580,6 +742,41 @@ bool printConcurring() {
     return good;
 }
 
+#ifdef TEST_SELECTION
+// How often selection was called how, and of how many providers it told what; what it said where a broadcast or a resend took it.
+bool printSelection() {
+    static const char *const asked[ASKED] = {
+        "told", "unsound", "no TN", "another length", "unsound and no TN", "unsound and another length"};
+    static const char *const why[REASONS] = {
+        ": no filter on a code", ": a filter on the code, none on its partner", ": a filter on the partner, none on the code",
+        ": in the list", ": behind the list", ": no filters that would skip it", ": a filter on the only code too",
+        ": filters on both codes too", "", ""};
+    bool good = true;
+    std::printf("selection, calls\n");
+    for (size_t i = 0; i < ASKED; i++) {
+        std::printf("    %-66s", asked[i]);
+        good = seen(tally.selections[i]) && good;
+        std::printf("\n");
+    }
+    std::printf("selection, providers\n");
+    for (size_t i = 0; i < REASONS; i++) {
+        std::printf("    %-66s", (lupinenblatt_class_name(CLASS_OF[i]) + std::string(why[i])).c_str());
+        good = seen(tally.reasons[i]) && good;
+        std::printf("\n");
+    }
+    std::printf("%-70s%10s%10s\n", "selection, providers at a broadcast and failed systems at a resend", "5, 9, 10", "14");
+    for (size_t i = 0; i < CLASSES; i++) {
+        std::printf("    %-66s", lupinenblatt_class_name(i));
+        good = seen(tally.broadcast[i]) && good;
+        good = seen(tally.resent[i]) && good;
+        std::printf("\n");
+    }
+    return good;
+}
+#else
+bool printSelection() { return true; }
+#endif
+
 #ifdef TEST_FAULTS
 // How often each number was seen. False where one was seen too rarely.
 bool printFaults() {
@@ -607,6 +804,9 @@ int main(int argc, char **argv) {
     if (argc <= 3) runFlows();
     for (; tally.events < wanted && tally.differ < 10; tally.sequence++) {
         Dice d(tally.seed * 1000003 + tally.sequence * 0x2545f4914f6cdd1d);
+#ifdef TEST_SELECTION
+        asking = Dice(tally.seed * 15485863 + tally.sequence * 0xd1342543de82ef95);
+#endif
         if (tally.sequence % 5 == 0) runExchange(d);
 #ifdef TEST_RUN
         else if (tally.sequence % 5 == 3) runRuns(d);
@@ -617,6 +817,7 @@ int main(int argc, char **argv) {
     bool enough = printFaults();
     enough = printShort() && enough;
     enough = printConcurring() && enough;
+    enough = printSelection() && enough;
     printTally();
     std::printf("%llu events compared, %llu differ\n", (unsigned long long)tally.events, (unsigned long long)tally.differ);
     return tally.differ == 0 && enough ? 0 : 1;

@@ -6,8 +6,8 @@
 // may not be touched at all, not even read. A fault is: a byte changed by a refusal, or outside a slice, or of a slice that is only read, or
 // of the tray behind its messages; an outcome that is none; outcome 1 or 2 where the model's checks say otherwise; outcome 0 with an
 // unsound table left or more messages than an event has. Of many events in one call the same, and that it stops where the tray says so. Of
-// the checks and of the calls that say where something is unsound: another answer than the model's, anything written. What an accepted
-// event should do is asked by compare, not here.
+// the checks and of the calls that say where something is unsound: another answer than the model's, anything written. Of selection: another
+// answer or other classes than the model's, anything else written. What an accepted event should do is asked by compare, not here.
 #include <csignal>
 #include <cstdio>
 #include <cstring>
@@ -154,7 +154,7 @@ Input makeInput(Dice &d, const Situation &s) {
 
 // ---- Checks ----
 
-struct Places { Place table, providers, books, event, tray, outcomes; };
+struct Places { Place table, providers, books, event, tray, outcomes, classes; };
 
 bool soundInput(const Input &in) {
     std::optional<Table> t = unpackTable(in.table.data(), in.table.size());
@@ -296,6 +296,43 @@ void checkChecks(Dice &d, Places &p, const Input &in) {
 }
 #endif
 
+#ifdef TEST_SELECTION
+// A number for selection: a TN of the books, the event's, ten digits, any bits; now and then with higher bits before it.
+uint64_t anyNumber(Dice &d, const Situation &s, const Input &in) {
+    uint64_t way = d.below(100), number = d.next() >> d.below(64);
+    if (way < 25 && !s.books.filters.empty()) number = d.pick(s.books.filters).code * 10000 + d.below(10000);
+    else if (way < 45) number = d.pick(s.tns).digits;
+    else if (way < 60 && in.event.size() == RECORD) number = unpackEvent(in.event.data(), RECORD).value_or(Event{}).tn.digits;
+    else if (way < 70) number = d.chance(50) ? anyTenDigits(d) : badDigits(d, anyTenDigits(d));
+    return d.chance(90) ? number : number | d.next() << d.between(34, 63);
+}
+
+// The class of each provider, on these slices and a slice of any length. Counts the answers.
+void checkSelection(Dice &d, Places &p, const Situation &s, const Input &in, uint64_t (&answers)[MALFORMED + 1]) {
+    uint64_t tn = anyNumber(d, s, in);
+    size_t length = d.chance(80) ? CLASS_PLACES : d.chance(50) ? d.between(CLASS_PLACES - 1, CLASS_PLACES + 1) : d.below(300);
+    Bytes blank = anyBytes(d, length), wanted = blank;
+    uint8_t *providers = p.providers.lay(d, in.providers), *books = p.books.lay(d, in.books), *classes = p.classes.lay(d, blank);
+    uint8_t said = lupinenblatt_selection(providers, in.providers.size(), books, in.books.size(), tn, classes, length);
+    Selection model = selection(unpackBooks(in.providers.data(), in.providers.size(), in.books.data(), in.books.size()), tn, length);
+    std::copy(model.classes.begin(), model.classes.end(), wanted.begin());
+    answers[model.outcome]++;
+    const char *what = nullptr;
+    if (said != model.outcome) what = "selection: outcome";
+    else if (said != 0 && !p.classes.same(0)) what = "selection: a refusal wrote";
+    else if (p.classes.now() != wanted) what = "selection: classes";
+    else if (!p.providers.same(0) || !p.books.same(0)) what = "selection: a slice that is only read was changed";
+    bool guarded = true;
+    for (Place *place : {&p.providers, &p.books, &p.classes}) guarded = place->guarded() && guarded;
+    if (!guarded) what = "selection: a byte outside a slice was changed";
+    if (!what) return;
+    fault(what);
+    if (faults > 1) return;
+    std::printf("TN %llu, %zu bytes, outcome %u, model %llu\n", (unsigned long long)tn, length, said, (unsigned long long)model.outcome);
+    printInput(in);
+}
+#endif
+
 #ifdef TEST_FAULTS
 // The calls that say where something is unsound.
 void checkFaults(Dice &d, Places &p, const Input &in) {
@@ -359,6 +396,7 @@ void checkRecord(Dice &d, Places &p, const Input &in) {
 
 int main(int argc, char **argv) {
     uint64_t wanted = argc > 1 ? std::strtoull(argv[1], nullptr, 10) : 400000, outcomes[OUTCOMES + 1] = {}, shortCalls = 0, done = 0;
+    uint64_t selections[MALFORMED + 1] = {};
     seed = argc > 2 ? std::strtoull(argv[2], nullptr, 10) : 1;
     input = argc > 3 ? std::strtoull(argv[3], nullptr, 10) : 1;
     std::signal(SIGSEGV, touched);
@@ -387,12 +425,17 @@ int main(int argc, char **argv) {
         }
 #endif
         else checkStep(own, places, in, outcomes, shortCalls);
+#ifdef TEST_SELECTION
+        if (own.chance(25)) checkSelection(own, places, s, in, selections);
+#endif
     }
     std::printf("outcomes:");
     for (size_t i = 0; i < OUTCOMES; i++)
         if (isOutcome(i)) std::printf(" %zu: %llu,", i, (unsigned long long)outcomes[i]);
     std::printf(" other: %llu", (unsigned long long)outcomes[OUTCOMES]);
     std::printf("; calls without R: %llu", (unsigned long long)shortCalls);
+    std::printf("; selections: 0: %llu, 1: %llu, 2: %llu", (unsigned long long)selections[DONE], (unsigned long long)selections[UNSOUND],
+                (unsigned long long)selections[MALFORMED]);
     std::printf("\n%llu inputs, %llu faults\n", (unsigned long long)done, (unsigned long long)faults);
     return faults == 0 ? 0 : 1;
 }

@@ -103,12 +103,12 @@ inline void makeLists(Dice &d, Situation &s, std::vector<Code> &homes) {
 
 // ---- Tables ----
 
-// A set of systems that none of the others has. Mostly systems of the books, sometimes any.
+// A set of systems that none of the others has. Mostly systems of the books, now and then of a provider that runs none now, sometimes any.
 inline Systems anySystems(Dice &d, const Situation &s, const Systems &a, const Systems &b, size_t atLeast) {
     Systems out;
     uint64_t share = d.pick(std::vector<uint64_t>{0, 0, 30, 60, 100});
-    for (Provider p : s.systems)
-        if (d.chance(share) && !a.count(p) && !b.count(p)) out.insert(p);
+    for (Provider p : s.present)
+        if (d.chance(runsLocalSms(s.books, p) ? share : share / 10) && !a.count(p) && !b.count(p)) out.insert(p);
     while (out.size() < atLeast || d.chance(5)) {
         Provider p = d.chance(70) && !s.systems.empty() ? d.pick(s.systems) : d.between(1, PROVIDERS);
         if (!a.count(p) && !b.count(p)) out.insert(p);

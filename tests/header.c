@@ -1,7 +1,7 @@
 /*
- * Every inline function of include/lupinenblatt.h on bytes made by hand from docs/LAYOUTS.md, the R of the call without R, and the calls with
- * null and length 0.
- * tests/header builds it as C99 and as C++17 and runs both. With an argument it prints the words of outcomes and clauses, a line for each number.
+ * Every inline function of include/lupinenblatt.h on bytes made by hand from docs/LAYOUTS.md, the R of the call without R, the classes of
+ * selection, and the calls with null and length 0. tests/header builds it as C99 and as C++17 and runs both. With an argument it prints the
+ * words of outcomes, classes and clauses, a line for each number.
  */
 #include <stdio.h>
 #include <string.h>
@@ -50,6 +50,7 @@ static void sizes(void)
     CHECK(LUPINENBLATT_CODES_AT + 4 * LUPINENBLATT_CODE_PLACES == LUPINENBLATT_FILTERS_AT);
     CHECK(LUPINENBLATT_FILTERS_AT + 4 * LUPINENBLATT_FILTER_PLACES == LUPINENBLATT_PAIRS_AT);
     CHECK(LUPINENBLATT_PAIRS_AT + 8 * LUPINENBLATT_PAIR_PLACES == LUPINENBLATT_BOOKS_BYTES);
+    CHECK(LUPINENBLATT_CLASSES == LUPINENBLATT_PROVIDERS_BYTES);
     char version[32];
     sprintf(version, "%d.%d.%d", LUPINENBLATT_VERSION_MAJOR, LUPINENBLATT_VERSION_MINOR, LUPINENBLATT_VERSION_PATCH);
     SAME(version, LUPINENBLATT_VERSION);
@@ -178,6 +179,7 @@ static void names(void)
     naming_is(lupinenblatt_sort_name, 1, SORTS, any, "no sort");
     naming_is(lupinenblatt_purpose_name, 0, PURPOSES - 1, any, "no purpose");
     naming_is(lupinenblatt_canceller_name, 0, CANCELLERS - 1, any, "no canceller");
+    naming_is(lupinenblatt_class_name, 0, CLASSES - 1, any, "no class");
     naming_is(lupinenblatt_table_fault_name, 0, TABLE_CLAUSES, any, "no clause");
     naming_is(lupinenblatt_books_fault_name, 0, BOOKS_CLAUSES, any, "no clause");
 }
@@ -234,6 +236,11 @@ static void other_words(void)
     SAME(lupinenblatt_canceller_name(LUPINENBLATT_CANCELLER_NOBODY), "nobody");
     SAME(lupinenblatt_canceller_name(LUPINENBLATT_CANCELLER_NEW), "new side");
     SAME(lupinenblatt_canceller_name(LUPINENBLATT_CANCELLER_OLD), "old side");
+    SAME(lupinenblatt_class_name(LUPINENBLATT_CLASS_SELECTED), "selected");
+    SAME(lupinenblatt_class_name(LUPINENBLATT_CLASS_NOT_PRESENT), "not present");
+    SAME(lupinenblatt_class_name(LUPINENBLATT_CLASS_NO_LOCAL), "no Local SMS");
+    SAME(lupinenblatt_class_name(LUPINENBLATT_CLASS_FILTER_ONLY), "filter on the only code");
+    SAME(lupinenblatt_class_name(LUPINENBLATT_CLASS_FILTERS_BOTH), "filters on both codes");
     SAME(lupinenblatt_outcome_name(LUPINENBLATT_DONE), "done");
     SAME(lupinenblatt_table_fault_name(LUPINENBLATT_FAULT_NONE), "nothing at fault");
     SAME(lupinenblatt_books_fault_name(LUPINENBLATT_FAULT_NONE), "nothing at fault");
@@ -272,10 +279,51 @@ static void retries(void)
     }
 }
 
+/* The classes for a TN of this code: those of providers 1 to 9 in the digits of `expected`, and nobody behind them is present. */
+static void classes_are(const uint8_t *list, uint64_t tn, const char *expected)
+{
+    uint8_t classes[LUPINENBLATT_CLASSES + 1];
+    memset(classes, 0xa5, sizeof classes);
+    CHECK(lupinenblatt_selection(list, 9, books, sizeof books, tn, classes, LUPINENBLATT_CLASSES) == LUPINENBLATT_DONE);
+    for (unsigned p = 1; p <= PROVIDERS; p++)
+        CHECK(classes[p - 1] == (p <= 9 ? expected[p - 1] - '0' : LUPINENBLATT_CLASS_NOT_PRESENT));
+    CHECK(classes[LUPINENBLATT_CLASSES] == 0xa5);
+}
+
+/* Every class by hand: 303555 stands in no pair, 404555 and 505555 in one. Providers 1 to 5 run Local SMSs, 6 to 8 none, 9 is absent. */
+static void selections(void)
+{
+    static const uint32_t filters[][2] = {{2, 303555}, {3, 404555}, {4, 404555}, {4, 505555}, {5, 303555}, {5, 505555},
+                                          {7, 303555}, {8, 303555}, {8, 404555}, {8, 505555}};
+    uint8_t list[9] = {3, 3, 3, 3, 3, 1, 1, 1, 0}, classes[LUPINENBLATT_CLASSES + 1], blank[LUPINENBLATT_CLASSES + 1];
+    memset(books, 0, sizeof books);
+    for (size_t i = 0; i < sizeof filters / sizeof *filters; i++)
+        lupinenblatt_books_put_filter(books, i, filters[i][0], filters[i][1]);
+    lupinenblatt_books_put_pair(books, 0, 606555, 707555);
+    lupinenblatt_books_put_pair(books, 1, 404555, 505555);
+    classes_are(list, 3035550100u, "030032221");
+    classes_are(list, 4045550100u, "000402221");
+    classes_are(list, 5055550100u, "000402221");
+    classes_are(list, 6065550100u, "000002221");
+    classes_are(list, 9199998888u, "000002221");
+    memset(blank, 0xa5, sizeof blank);
+    memset(classes, 0xa5, sizeof classes);
+    for (size_t length = 0; length <= sizeof classes; length++)
+        CHECK(length == LUPINENBLATT_CLASSES
+              || lupinenblatt_selection(list, 9, books, sizeof books, 3035550100u, classes, length) == LUPINENBLATT_MALFORMED);
+    CHECK(lupinenblatt_selection(list, 9, books, sizeof books, 303555010u, classes, 63) == LUPINENBLATT_MALFORMED);
+    CHECK(lupinenblatt_selection(list, 9, books, sizeof books, 3031550100u, classes, 63) == LUPINENBLATT_MALFORMED);
+    CHECK(lupinenblatt_selection(list, 9, books, sizeof books, 3035550100u + ((uint64_t)1 << 34), classes, 63) == LUPINENBLATT_MALFORMED);
+    list[8] = LUPINENBLATT_PROVIDER_LOCAL - 1;
+    CHECK(lupinenblatt_selection(list, 9, books, sizeof books, 3035550100u, classes, 63) == LUPINENBLATT_UNSOUND);
+    CHECK(lupinenblatt_selection(list, 9, books, sizeof books, 0, classes, 64) == LUPINENBLATT_UNSOUND);
+    CHECK(memcmp(classes, blank, sizeof classes) == 0);
+}
+
 /* What the library at hand does with null and 0, which is tested and not promised. */
 static void nulls(void)
 {
-    uint8_t table[LUPINENBLATT_ROW_BYTES] = {0}, tray[LUPINENBLATT_TRAY_BYTES], list[1] = {0};
+    uint8_t table[LUPINENBLATT_ROW_BYTES] = {0}, tray[LUPINENBLATT_TRAY_BYTES], list[1] = {0}, classes[LUPINENBLATT_CLASSES] = {0};
     lupinenblatt_answer a = lupinenblatt_table_check(NULL, 0);
     lupinenblatt_fault f = lupinenblatt_table_fault(NULL, 0, NULL, 0, NULL, 0);
     lupinenblatt_ran r;
@@ -286,6 +334,10 @@ static void nulls(void)
     CHECK(f.clause == LUPINENBLATT_BOOKS_FAULT_LENGTH && f.place == 0);
     CHECK(lupinenblatt_books_check(NULL, 0, books, sizeof books) == LUPINENBLATT_DONE);
     CHECK(lupinenblatt_books_check(list, 1, NULL, 0) == LUPINENBLATT_UNSOUND);
+    CHECK(lupinenblatt_selection(NULL, 0, books, sizeof books, 3035550100u, classes, sizeof classes) == LUPINENBLATT_DONE);
+    CHECK(classes[0] == LUPINENBLATT_CLASS_NOT_PRESENT && classes[62] == LUPINENBLATT_CLASS_NOT_PRESENT);
+    CHECK(lupinenblatt_selection(NULL, 0, books, sizeof books, 3035550100u, NULL, 0) == LUPINENBLATT_MALFORMED);
+    CHECK(lupinenblatt_selection(NULL, 0, NULL, 0, 3035550100u, NULL, 0) == LUPINENBLATT_UNSOUND);
     CHECK(lupinenblatt_record_read(NULL, 0, NULL, 0) == LUPINENBLATT_MALFORMED);
     CHECK(lupinenblatt_record_write(1, 2, 1, 0, 0, 3035550100u, 3035550000u, 0, 10, 100, NULL, 0) == LUPINENBLATT_MALFORMED);
     a = lupinenblatt_step(NULL, 0, NULL, 0, books, sizeof books, 0, record, 24, tray, sizeof tray);
@@ -309,6 +361,7 @@ int main(int count, char **arguments)
     (void)arguments;
     if (count > 1) {
         print_names("outcome", lupinenblatt_outcome_name, 1, OUTCOMES - 1, isOutcome);
+        print_names("class", lupinenblatt_class_name, 0, CLASSES - 1, any);
         print_names("TABLE", lupinenblatt_table_fault_name, 1, TABLE_CLAUSES, any);
         print_names("BOOKS", lupinenblatt_books_fault_name, 1, BOOKS_CLAUSES, any);
         return 0;
@@ -325,6 +378,7 @@ int main(int count, char **arguments)
     sort_words();
     other_words();
     retries();
+    selections();
     nulls();
     printf("%u checks, %u wrong\n", checks, wrong);
     return wrong != 0;

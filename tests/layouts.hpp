@@ -16,6 +16,7 @@ using Bytes = std::vector<uint8_t>;
 // The model spells its own numbers, and this file has its own layouts; both must be those of sizes.h.
 static_assert(ANOTHER_DUE + 1 == OUTCOMES && PURGE == KINDS && CANCELED + 1 == STATUSES && WINDOW_NOTICE == SORTS, "numbers of the model");
 static_assert(DISCONNECT + 1 == PURPOSES && OLD_SIDE + 1 == CANCELLERS && NO + 1 == MARKS, "numbers of the model");
+static_assert(FILTERS_ON_BOTH_CODES + 1 == CLASSES && CLASS_PLACES == 63, "numbers of the model");
 static_assert(PROVIDERS == 63 && CODES == 1024 && FILTERS == 1024 && SPLITS == 64 && MOST_ROWS == 4096, "bounds of the model");
 static_assert(PLACES == 64 && MOST_RETRIES == 7 && LAST_VERSION == 65535 && LAST_CAUSE == 99, "bounds of the model");
 static_assert(CODES_AT == 8 && FILTERS_AT == CODES_AT + 4 * CODES && SPLITS_AT == FILTERS_AT + 4 * FILTERS, "places of the books");

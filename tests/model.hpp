@@ -650,13 +650,22 @@ inline std::optional<Code> partnerOf(const Books &b, Code code) {
     return std::nullopt;
 }
 
-inline bool skipped(const Books &b, Provider p, Code code) {
-    if (!hasFilter(b, p, code)) return false;
+// [A8.1] What selection gives a provider for a TN. Asked is whether it is present, then whether it runs a Local SMS, then its filters.
+enum Class : uint8_t { SELECTED = 0, NOT_PRESENT = 1, NO_LOCAL_SMS = 2, FILTER_ON_THE_ONLY_CODE = 3, FILTERS_ON_BOTH_CODES = 4 };
+
+inline Class classOf(const Books &b, Provider p, Tn tn) {
+    Code code = codeOf(tn);
+    if (!present(b, p)) return NOT_PRESENT;
+    if (!runsLocalSms(b, p)) return NO_LOCAL_SMS;
+    if (!hasFilter(b, p, code)) return SELECTED;
     std::optional<Code> partner = partnerOf(b, code);
-    return !partner || hasFilter(b, p, *partner);
+    if (!partner) return FILTER_ON_THE_ONLY_CODE;
+    if (!hasFilter(b, p, *partner)) return SELECTED;
+    return FILTERS_ON_BOTH_CODES;
 }
 
-inline bool selected(const Books &b, Provider p, Tn tn) { return runsLocalSms(b, p) && !skipped(b, p, codeOf(tn)); }
+// [A8.2] Broadcast and resend take it.
+inline bool selected(const Books &b, Provider p, Tn tn) { return classOf(b, p, tn) == SELECTED; }
 
 // Old is neither live nor for a purpose. [V8] [V9]
 inline void becomeOld(Version &v) {
@@ -768,6 +777,21 @@ inline Result step(std::optional<Table> &t, const std::optional<Books> &b, uint6
     else r.outcome = outcomeOf(*t, *b, *e);
     if (r.outcome == DONE) r.messages = done(*t, *b, R, *e);
     return r;
+}
+
+// [A8.1] The call that gives the class of every provider: nothing with 1 or 2, which come in this order.
+struct Selection {
+    Outcome outcome = DONE;
+    std::vector<Class> classes;  // provider n at place n, counted from 1
+};
+
+inline Selection selection(const std::optional<Books> &b, uint64_t number, size_t places) {
+    Selection s;
+    if (!b || !sound(*b)) s.outcome = UNSOUND;
+    else if (!tenDigits(number) || places != 63) s.outcome = MALFORMED;
+    if (s.outcome != DONE) return s;
+    for (Provider p = 1; p <= 63; p++) s.classes.push_back(classOf(*b, p, Tn{number}));
+    return s;
 }
 
 // [A9.1] The R of a call without R.

@@ -25,6 +25,7 @@ NUMBER(SORTS, LUPINENBLATT_WINDOW);                             /* sorts of mess
 NUMBER(PURPOSES, LUPINENBLATT_PURPOSE_DISCONNECT + 1);          /* purposes of a broadcast, from 0 for none */
 NUMBER(CANCELLERS, LUPINENBLATT_CANCELLER_OLD + 1);             /* cancellers, from 0 for nobody */
 NUMBER(MARKS, LUPINENBLATT_NO + 1);                             /* authorizations and results, from 0 for none */
+NUMBER(CLASSES, LUPINENBLATT_CLASS_FILTERS_BOTH + 1);           /* classes that selection gives a provider, from 0 */
 NUMBER(TABLE_CLAUSES, LUPINENBLATT_TABLE_FAULT_BOOKS);          /* clauses of docs/FAULTS.md for a table, from 1; 0 is nothing at fault */
 NUMBER(BOOKS_CLAUSES, LUPINENBLATT_BOOKS_FAULT_PAIRED_TWICE);   /* likewise for provider list and books */
 
@@ -46,6 +47,7 @@ NUMBER(MOST_MESSAGES, 63);                                      /* messages of o
 
 /* Provider list and books. */
 NUMBER(PROVIDERS, LUPINENBLATT_PROVIDERS_BYTES);                /* providers, from 1; bytes of the longest list */
+NUMBER(CLASS_PLACES, LUPINENBLATT_CLASSES);                     /* bytes of the slice for classes, one for each provider */
 NUMBER(BOOKS, LUPINENBLATT_BOOKS_BYTES);                        /* bytes of the books */
 NUMBER(CODES_AT, LUPINENBLATT_CODES_AT);                        /* where the codes begin */
 NUMBER(FILTERS_AT, LUPINENBLATT_FILTERS_AT);                    /* where the filters begin */

@@ -16,7 +16,7 @@ static uint8_t stack[STACK] __attribute__((aligned(65536)));
 static uint8_t table[MOST_ROWS * ROW], books[BOOKS], providers[PROVIDERS], tray[EVENTS * PLACES * MESSAGE];
 static uint8_t events[EVENTS * RECORD], outcomes[2 * EVENTS], event[RECORD];
 static uint8_t before[sizeof table];
-static unsigned now = 10, recorded, done;
+static unsigned now = 10, recorded, done, told;
 static uint64_t ran;
 
 static void empty(void) {}
@@ -42,6 +42,13 @@ static void run(void)
 
 static void table_check(void) { lupinenblatt_table_check(table, sizeof table); }
 static void books_check(void) { lupinenblatt_books_check(providers, sizeof providers, books, sizeof books); }
+static void selection(void)
+{
+    static uint8_t classes[CLASS_PLACES];
+    told += lupinenblatt_selection(providers, sizeof providers, books, sizeof books, told == 0 ? 4042000100u : 5052000100u, classes,
+                                   sizeof classes) == LUPINENBLATT_DONE;
+}
+
 static void table_fault(void) { lupinenblatt_table_fault(table, sizeof table, providers, sizeof providers, books, sizeof books); }
 static void books_fault(void) { lupinenblatt_books_fault(providers, sizeof providers, books, sizeof books); }
 
@@ -144,11 +151,12 @@ int main(void)
     each_kind();
     memcpy(table, before, sizeof table);
     tell("run", run), tell("table_check", table_check), tell("books_check", books_check);
+    tell("selection", selection), tell("selection, a code of a pair", selection);
     tell("record_read", record_read), tell("record_write", record_write), tell("table_fault", table_fault), tell("books_fault", books_fault);
     table[sizeof table - 1] = 1, books[sizeof books - 2] = 1;
     tell("table_fault, unsound", table_fault), tell("books_fault, unsound", books_fault);
-    if (done != 70 || ran != recorded) {
-        printf("%u events accepted instead of 70, %u of %u run\n", done, (unsigned)ran, recorded);
+    if (done != 70 || ran != recorded || told != 2) {
+        printf("%u events accepted instead of 70, %u of %u run, %u selections instead of 2\n", done, (unsigned)ran, recorded, told);
         return 1;
     }
     printf("%lu bytes of stack at most\n", (unsigned long)most);

@@ -44,6 +44,13 @@ extern "C" uint8_t lupinenblatt_books_check(const uint8_t *providers, size_t pro
     return b && sound(*b) ? DONE : UNSOUND;
 }
 
+extern "C" uint8_t lupinenblatt_selection(const uint8_t *providers, size_t providersLength, const uint8_t *books, size_t booksLength,
+                                          uint64_t tn, uint8_t *classes, size_t classesLength) {
+    Selection s = selection(unpackBooks(providers, providersLength, books, booksLength), tn, classesLength);
+    std::copy(s.classes.begin(), s.classes.end(), classes);
+    return uint8_t(s.outcome);
+}
+
 extern "C" lupinenblatt_fault lupinenblatt_table_fault(const uint8_t *table, size_t tableLength, const uint8_t *providers,
                                                        size_t providersLength, const uint8_t *books, size_t booksLength) {
     Fault f = tableFault(table, tableLength, providers, providersLength, books, booksLength);
