@@ -306,14 +306,14 @@ uint8_t lupinenblatt_books_check(const uint8_t *providers, size_t providers_leng
 /*
  * Why a provider gets the downloads of a TN or does not: the class of each provider by this provider list and these books.
  *
- * It returns LUPINENBLATT_UNSOUND where the provider list or the books are unsound; otherwise LUPINENBLATT_MALFORMED where `tn` is no TN,
- * whose low bits are never taken for one, or `classes` is not exactly 63 bytes. With either nothing is written.
+ * It returns LUPINENBLATT_UNSOUND where the provider list or the books are unsound; otherwise LUPINENBLATT_MALFORMED where `tn` is no TN
+ * (the low bits of a wider number are never taken for one) or `classes` is not exactly 63 bytes. With either nothing is written.
  *
- * Otherwise it returns LUPINENBLATT_DONE, and byte n - 1 of `classes` is the LUPINENBLATT_CLASS_.. of provider n. Asked is in this order:
- * whether the provider is present, which nobody is behind the end of the provider list; whether it runs a Local SMS; whether its filters
- * skip it, by a filter on the TN's code where that stands in no pair, by filters on both codes of the pair where it stands in one. With a
- * filter on one code of a pair it is selected. An event that activates, modifies or disconnects a version of this TN sends its downloads to
- * exactly the selected providers, a resend to those of them that had failed. Provider list and books are only read.
+ * Otherwise it returns LUPINENBLATT_DONE, and byte n - 1 of `classes` is the LUPINENBLATT_CLASS_.. of provider n. Told is the first that
+ * holds: it is not present, as nobody is behind the end of the provider list; it runs no Local SMS; the TN's code stands in no pair and the
+ * provider has a filter on it; the code stands in a pair and the provider has filters on both codes. Otherwise it is selected, also with a
+ * filter on one code of a pair. An event that activates, modifies or disconnects a version of this TN sends its downloads to exactly the
+ * selected providers, a resend to those of them that had failed. Provider list and books are only read.
  */
 uint8_t lupinenblatt_selection(const uint8_t *providers, size_t providers_length, const uint8_t *books, size_t books_length, uint64_t tn,
                                uint8_t *classes, size_t classes_length);
