@@ -6,10 +6,10 @@ use mathlib.Core.Bool.{Bool, true, false, cond, _&&_}
 use mathlib.Core.List.{List, [], _∷_, _++_, map}
 use native.Mathlib.Numerals.{add-one}
 use native.Mathlib.Omega.{arith}
-use borrow.Author.Tests.{ne-eqb}
+use borrow.Author.Tests.{ne-eqb, eqb-true, eqb-false}
 use lib.Dec.{eqb}
-use lib.ListN.{length, take, set}
-use lib.Seq.{take-all, take-suc-set}
+use lib.ListN.{length, getD, take, set, length-append, List·getD-append}
+use lib.Seq.{take-all, take-suc-set, getD-at}
 use Rattle.model.specs.Selection.{classNumber}
 use Rattle.model.specs.declared.Class.{Class}
 use Rattle.model.specs.Numbers.{tenDigits, codeOf}
@@ -42,7 +42,33 @@ pub same-numbers : (f g : ℕ → Class) (n : ℕ) → ((p : ℕ) → 1 ≤ p �
 unfolding numbersOf
 same-numbers f g zero h = refl
 same-numbers f g (suc n) h =
-    ap₂ (λ (a : List ℕ) (b : Class). a ++ classNumber b ∷ []) (same-numbers f g n (λ p l m. h p l (omega arith))) (h (suc n) (omega arith) (omega arith))
+    ap₂ (λ (a : List ℕ) (b : Class). a ++ classNumber b ∷ [])
+    (same-numbers f g n (λ p l m. h p l (omega arith))) (h (suc n) (omega arith) (omega arith))
+
+-- as many as providers, and the number of each at its place
+pub length-numbers : (f : ℕ → Class) (n : ℕ) → length (numbersOf f n) ≡ n
+unfolding numbersOf
+length-numbers f zero = refl
+length-numbers f (suc n) =
+    length-append (numbersOf f n) (classNumber (f (suc n)) ∷ []) ∙ add-one (length (numbersOf f n)) ∙ ap suc (length-numbers f n)
+
+pub number-at : (f : ℕ → Class) (n i : ℕ) → i < n → getD (numbersOf f n) i 0 ≡ classNumber (f (suc i))
+unfolding numbersOf
+number-at f zero i h = absurd (omega arith)
+number-at f (suc n) i h = go (number-at f n i) (eqb i n) refl
+  where
+    l : length (numbersOf f n) ≡ n
+    l = length-numbers f n
+
+    go : (i < n → getD (numbersOf f n) i 0 ≡ classNumber (f (suc i))) → (b : Bool) → eqb i n ≡ b
+        → getD (numbersOf f n ++ classNumber (f (suc n)) ∷ []) i 0 ≡ classNumber (f (suc i))
+    go before true e =
+        let q : i ≡ n = eqb-true i n e in
+        getD-at (numbersOf f n) (classNumber (f (suc n))) [] 0 i (l ∙ sym q) ∙ ap (λ (k : ℕ). classNumber (f (suc k))) (sym q)
+    go before false e =
+        let d : i ≡ n → ⊥ = eqb-false i n e in
+        let k : i < n = omega arith in
+        List·getD-append (numbersOf f n) (classNumber (f (suc n)) ∷ []) 0 i (omega (arith, l)) ∙ before k
 
 -- ---- what is answered
 

@@ -26,6 +26,10 @@ booksOf p b = decodeBooks (listed (map entryOf p) .marks) b
 abbrev pub soundLists : List ℕ → List ℕ → Bool
 soundLists p b = listed (map entryOf p) .sound && soundBytes (listed (map entryOf p) .marks) b
 
+-- the numbers of all providers' classes for a TN
+abbrev pub classesFor : List ℕ → List ℕ → ℕ → List ℕ
+classesFor p b tn = numbersOf (classOf (booksOf p b) (codeOf (record { 0 = tn }))) 63
+
 -- 1 where provider list or books are unsound, else 2 where it is no TN or there are not 63 places, else 0 [O2, A8.1]
 unfoldable pub answerFor : List ℕ → List ℕ → ℕ → ℕ → ℕ
 answerFor p b tn places = cond (soundLists p b) (cond (tenDigits tn && eqb places 63) 0 2) 1
@@ -33,4 +37,4 @@ answerFor p b tn places = cond (soundLists p b) (cond (tenDigits tn && eqb place
 -- Place p - 1 is the number of provider p's class; where it is refused, all places are as they were. [F4, A8.1]
 pub record Classified (p b : List ℕ) (tn : ℕ) (before after : List ℕ) (r : ℕ) : Type 0 where
   pub said : r ≡ answerFor p b tn (length before)
-  pub wrote : after ≡ cond (eqb (answerFor p b tn (length before)) 0) (numbersOf (classOf (booksOf p b) (codeOf (record { 0 = tn }))) 63) before
+  pub wrote : after ≡ cond (eqb (answerFor p b tn (length before)) 0) (classesFor p b tn) before

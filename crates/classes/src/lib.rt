@@ -57,8 +57,8 @@ fn formed(tn: Tn, places: usize) -> bool
     kinds::is_tn(tn) & (places == PLACES)
 }
 
-// The classes for a TN to exactly 63 places, and 0; 1 where provider list or books are unsound, 2 where it is no TN or the places are not 63,
-// and nothing is written.
+// The classes for a TN to exactly 63 places, and 0; 1 where provider list or books are unsound, 2 where it is no TN or the places are not
+// 63, and nothing is written.
 pub fn write(providers: &[u8], books: &[u8], tn: u64, out: &mut [u8]) -> u8
     ensures { λ r. ⌜ Classified (now (providers .entry)) (now (books .entry)) tn (now (out .entry)) (now (out .exit)) r ⌝ }
 {

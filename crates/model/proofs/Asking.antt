@@ -2,8 +2,8 @@
 -- Assumes nothing.
 use Prim.Native.Nat.{ℕ, zero, suc, _+_, _^_, _≤_, _<_}
 use mathlib.Core.Path.{_≡_, refl, sym, ap, ap₂, _∙_}
-use mathlib.Core.Bool.{Bool, true, false, cond, not, _&&_, _||_, and-true, and-comm, or-false}
-use mathlib.Core.List.{List, [], _∷_, map}
+use mathlib.Core.Bool.{Bool, true, false, cond, not, _&&_, _||_, and-true, and-comm, or-false, or-assoc}
+use mathlib.Core.List.{List, [], _∷_, _++_, map}
 use native.Mathlib.Omega.{arith}
 use borrow.Author.Tests.{le-leb, lt-leb, leb-true, leb-false, eqb-true, eqb-false}
 use lib.Dec.{eqb, leb}
@@ -13,20 +13,21 @@ use Rattle.model.specs.Basics.{any}
 use Rattle.model.specs.Numbers.{codeOf}
 use Rattle.model.specs.Books.{Books, Filter, Split, partnerOf, filters}
 use Rattle.model.specs.Selection.{skipped, classOf, classNumber, isSelected, selects, selectedFor}
-use Rattle.model.specs.Broadcast.{resends, askedFor, opened}
-use Rattle.model.specs.Tray.{membersTo, members, downloadTo, downloads}
+use Rattle.model.specs.Broadcast.{resends, askedFor, opened, broadcasts}
+use Rattle.model.specs.Closing.{open?, closed, closingTold, settlingTold}
+use Rattle.model.specs.Tray.{status, noLrn, toSoas, toldAtClose, membersTo, members, downloadTo, downloads}
 use Rattle.model.specs.declared.Message.{Message}
+use Rattle.model.specs.declared.Lrn.{Lrn}
 use Rattle.model.specs.declared.Event.{Event}
 use Rattle.model.specs.declared.Version.{Version}
 
 -- ---- whom a broadcast asks
 
--- 5, 9, 10 ask those of class selected; 14 asks those of them that have failed. [A8.2]
-pub asks-by-class : (bk : Books) (e : Event) (v : Version) (p : ℕ) → 1 ≤ p → p ≤ 63
+pub asked : (bk : Books) (e : Event) (v : Version) (p : ℕ) → 1 ≤ p → p ≤ 63
     → member (opened (selectedFor bk (v .id .tn)) e v .cast .waiting) p
     ≡ (isSelected (classOf bk (codeOf (v .id .tn)) p) && (not (resends e) || member (v .cast .failed) p))
 unfolding opened askedFor selectedFor meet
-asks-by-class bk e v p l m = go (resends e)
+asked bk e v p l m = go (resends e)
   where
     f : ℕ → Bool
     f = selects bk (codeOf (v .id .tn))
@@ -74,28 +75,56 @@ module _ (s p : ℕ) (low : 1 ≤ p) where
           there true = ap (λ (x : Bool). x || has l) e
           there false = refl
 
--- a download of the version goes to p
-abbrev downloadedTo : Version → ℕ → Bool
-downloadedTo w p = any (λ (m : Message). eqb (m .provider) p) (downloads w)
+-- ---- who is told
 
--- where p is waited for
-waited-for : (w : Version) (p : ℕ) → 1 ≤ p → p ≤ 63 → downloadedTo w p ≡ member (w .cast .waiting) p
+-- a message to p's Local SMS
+abbrev pub toLocalSms : ℕ → Message → Bool
+toLocalSms p m = m .local && eqb (m .provider) p
+
+-- a download goes to whom the version waits for
+downloads-to : (w : Version) (p : ℕ) → 1 ≤ p → p ≤ 63 → any (toLocalSms p) (downloads w) ≡ member (w .cast .waiting) p
 unfolding members
-waited-for w p l m =
+downloads-to w p l m =
     each (members set) ∙ has-to set p l 63 [] ∙ ap (λ (b : Bool). (b && member set p) || false) (le-leb p 63 m) ∙ or-false (member set p)
   where
     set : ℕ
     set = w .cast .waiting
 
-    each : (ps : List ℕ) → any (λ (m : Message). eqb (m .provider) p) (map (downloadTo w) ps) ≡ has set p l ps
+    each : (ps : List ℕ) → any (toLocalSms p) (map (downloadTo w) ps) ≡ has set p l ps
     each [] = refl
     each (q ∷ qs) = ap (λ (b : Bool). eqb q p || b) (each qs)
 
--- the downloads of a broadcast, likewise
-pub downloads-by-class : (bk : Books) (e : Event) (v : Version) (p : ℕ) → 1 ≤ p → p ≤ 63
-    → downloadedTo (opened (selectedFor bk (v .id .tn)) e v) p
+-- nothing else goes to a Local SMS
+soas-none : (p : ℕ) (v : Version) (sort failed : ℕ) (lrn : Lrn) (ps : List ℕ) → any (toLocalSms p) (toSoas v sort failed lrn ps) ≡ false
+soas-none p v sort failed lrn [] = refl
+soas-none p v sort failed lrn (q ∷ qs) = soas-none p v sort failed lrn qs
+
+closing-none : (w : Version) (p : ℕ) → any (toLocalSms p) (closingTold w) ≡ false
+unfolding closingTold
+closing-none w p = soas-none p (closed w) status (w .cast .failed) noLrn (toldAtClose w)
+
+settling-none : (w : Version) (p : ℕ) → any (toLocalSms p) (settlingTold w) ≡ false
+unfolding settlingTold
+settling-none w p = go (open? w)
+  where
+    go : (b : Bool) → any (toLocalSms p) (cond b [] (closingTold w)) ≡ false
+    go true = refl
+    go false = closing-none w p
+
+any-or : (f : Message → Bool) (xs ys : List Message) → any f (xs ++ ys) ≡ (any f xs || any f ys)
+any-or f [] ys = refl
+any-or f (x ∷ xs) ys = ap (λ (b : Bool). f x || b) (any-or f xs ys) ∙ sym (or-assoc (f x) (any f xs) (any f ys))
+
+pub told : (bk : Books) (e : Event) (v : Version) (others : List Version) (p : ℕ) → 1 ≤ p → p ≤ 63
+    → any (toLocalSms p) (broadcasts bk e v others .sent)
     ≡ (isSelected (classOf bk (codeOf (v .id .tn)) p) && (not (resends e) || member (v .cast .failed) p))
-downloads-by-class bk e v p l m = waited-for (opened (selectedFor bk (v .id .tn)) e v) p l m ∙ asks-by-class bk e v p l m
+unfolding broadcasts
+told bk e v others p l m =
+    let w : Version = opened (selectedFor bk (v .id .tn)) e v in
+    any-or (toLocalSms p) (downloads w) (settlingTold w)
+    ∙ ap (λ (b : Bool). any (toLocalSms p) (downloads w) || b) (settling-none w p)
+    ∙ or-false (any (toLocalSms p) (downloads w))
+    ∙ downloads-to w p l m ∙ asked bk e v p l m
 
 -- ---- the five classes, shown
 
@@ -114,10 +143,10 @@ shownBooks = record {
 }
 
 -- the numbers of the classes of providers 1 to 5
-abbrev shown : ℕ → List ℕ
+abbrev pub shown : ℕ → List ℕ
 shown code = map (λ (p : ℕ). classNumber (classOf shownBooks code p)) (1 ∷ 2 ∷ 3 ∷ 4 ∷ 5 ∷ [])
 
-pub classes-shown : (shown 303555 ≡ 0 ∷ 0 ∷ 4 ∷ 2 ∷ 1 ∷ []) × (shown 303556 ≡ 0 ∷ 0 ∷ 4 ∷ 2 ∷ 1 ∷ [])
+pub classes : (shown 303555 ≡ 0 ∷ 0 ∷ 4 ∷ 2 ∷ 1 ∷ []) × (shown 303556 ≡ 0 ∷ 0 ∷ 4 ∷ 2 ∷ 1 ∷ [])
     × (shown 720123 ≡ 0 ∷ 3 ∷ 0 ∷ 2 ∷ 1 ∷ [])
 unfolding member skipped classOf partnerOf filters
-classes-shown = (refl, refl, refl)
+classes = (refl, refl, refl)

@@ -2,12 +2,17 @@
 -- Assumes nothing.
 use mathlib.Core.Path.{_≡_, refl}
 use Prim.Native.Nat.{ℕ, _+_, _*_, _≤_, _<_}
-use mathlib.Core.Bool.{Bool, true, false, _&&_}
+use mathlib.Core.Bool.{Bool, true, false, not, _&&_, _||_}
 use mathlib.Core.Option.{some}
-use mathlib.Core.List.{List, []}
+use mathlib.Core.List.{List, [], _∷_}
 use lib.Dec.{eqb}
 use lib.ListN.{length, getD}
-use Rattle.model.specs.Basics.{All, holds}
+use Rattle.systems.specs.Set.{member}
+use Rattle.model.specs.Basics.{All, any, holds}
+use Rattle.model.specs.Numbers.{codeOf}
+use Rattle.model.specs.Books.{Books}
+use Rattle.model.specs.Selection.{classOf, isSelected, selectedFor}
+use Rattle.model.specs.Broadcast.{resends, opened, broadcasts}
 use Rattle.model.specs.Table.{rowsOf, find}
 use Rattle.model.specs.Sound.{soundTable}
 use Rattle.model.specs.Record.{isCreate}
@@ -21,6 +26,7 @@ use Rattle.model.proofs.Lists.{clash}
 use Rattle.model.proofs.SoundTables.{says-table}
 use Rattle.model.proofs.Reordering.{sane-of, bare-keeps, step-is, reordering}
 use Rattle.model.proofs.Concurring.{alone, concurs}
+use Rattle.model.proofs.Asking.{toLocalSms, asked, told, shown, classes}
 use Rattle.model.proofs.Effects.{modest-step, fine-step, other-rows}
 use Rattle.model.proofs.Stages.{passes, allPass, asks12}
 use Rattle.model.proofs.Worked.{examples, worked-examples, listing, the-listing, slips, slips-shut-out, dueDates, dates-shown, waitingTable, inOrder, places, Instance, an-instance}
@@ -104,6 +110,25 @@ another-due-alone = alone
 -- that parts the dates again. [A4.1, A4.2]
 pub due-dates-shown : allPass dueDates ≡ true
 due-dates-shown = dates-shown
+
+-- Whom a broadcast asks: with 5, 9 and 10 it waits for those of class selected, with 14 for those of them that stood in the failed set.
+-- [A8.2]
+pub asked-by-class : (bk : Books) (e : Event) (v : Version) (p : ℕ) → 1 ≤ p → p ≤ 63
+    → member (opened (selectedFor bk (v .id .tn)) e v .cast .waiting) p
+    ≡ (isSelected (classOf bk (codeOf (v .id .tn)) p) && (not (resends e) || member (v .cast .failed) p))
+asked-by-class = asked
+
+-- And exactly these Local SMSs get a message of its event. [A8.2, A8.3]
+pub told-by-class : (bk : Books) (e : Event) (v : Version) (others : List Version) (p : ℕ) → 1 ≤ p → p ≤ 63
+    → any (toLocalSms p) (broadcasts bk e v others .sent)
+    ≡ (isSelected (classOf bk (codeOf (v .id .tn)) p) && (not (resends e) || member (v .cast .failed) p))
+told-by-class = told
+
+-- The five classes of A8, for the two codes of a pair and for a code in none: each class, a filter on one code of the pair, filters and no
+-- Local SMS. [A8.1]
+pub classes-shown : (shown 303555 ≡ 0 ∷ 0 ∷ 4 ∷ 2 ∷ 1 ∷ []) × (shown 303556 ≡ 0 ∷ 0 ∷ 4 ∷ 2 ∷ 1 ∷ [])
+    × (shown 720123 ≡ 0 ∷ 3 ∷ 0 ∷ 2 ∷ 1 ∷ [])
+classes-shown = classes
 
 -- The grid's table has 9 times 11 times 3 entries. [G2]
 pub grid-entries : length cells ≡ 297

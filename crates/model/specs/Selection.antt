@@ -16,8 +16,8 @@ unfoldable pub skipped : Books → ℕ → ℕ → Bool
 skipped bk code p =
     filters bk p code && (eqb (partnerOf bk code) 0 || filters bk p (partnerOf bk code))
 
--- Selection gives each provider one of: selected, not present, no Local SMS, filter on the only code, filters on both codes. Present is asked
--- first, then the Local SMS, then the filters; a code that stands in no pair is the only one. [A8.1]
+-- Selection gives each provider one of: selected, not present, no Local SMS, filter on the only code, filters on both codes. Present is
+-- asked first, then the Local SMS, then the filters; a code that stands in no pair is the only one. [A8.1]
 unfoldable pub classOf : Books → ℕ → ℕ → Class
 classOf bk code p =
     cond (not (present bk p)) NotPresent

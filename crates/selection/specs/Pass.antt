@@ -21,8 +21,8 @@ largerOf code partner = cond (ltb code partner) partner code
 abbrev pub comesBefore : ℕ → ℕ → Bool
 comesBefore place wanted = not (eqb place 0) && ltb place wanted
 
--- The set of the selected, whether the code stands in a pair, and the looks at the filter list: at most one for each filter, and one more for
--- each provider, at the place where it stops. [A2.1]
+-- The set of the selected, whether the code stands in a pair, and the looks at the filter list: at most one for each filter, and one more
+-- for each provider, at the place where it stops. [A2.1]
 pub record Passed (bk : Books) (code : ℕ) (r : Pass) : Type 0 where
   pub selected : r .selected ≡ maskOf (selects bk code) 63
   pub paired : r .paired ≡ not (eqb (partnerOf bk code) 0)

@@ -18,7 +18,8 @@ returns c = rw (sym (c .before .has .ensures) ∙ not-true _ (c .if1 .taken))
 present : (c : tie.Else1) → member (c .before .before .args .c .marks .present) (c .before .before .args .provider) ≡ true
 present c = sym (c .before .has .ensures) ∙ not-false _ (c .if1 .left)
 
-runs : (c : tie.Else2) → member (c .before .before .before .before .args .c .marks .local) (c .before .before .before .before .args .provider) ≡ true
+runs : (c : tie.Else2)
+    → member (c .before .before .before .before .args .c .marks .local) (c .before .before .before .before .args .provider) ≡ true
 runs c = sym (c .before .has2 .ensures) ∙ not-false _ (c .if2 .left)
 
 has-requires-2 : tie.Need-has-requires-2
