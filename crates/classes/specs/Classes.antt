@@ -34,7 +34,7 @@ classesFor p b tn = numbersOf (classOf (booksOf p b) (codeOf (record { 0 = tn })
 unfoldable pub answerFor : List ℕ → List ℕ → ℕ → ℕ → ℕ
 answerFor p b tn places = cond (soundLists p b) (cond (tenDigits tn && eqb places 63) 0 2) 1
 
--- Place p - 1 is the number of provider p's class; where it is refused, all places are as they were. [F4, A8.1]
+-- Place n - 1 has the number of provider n's class; where it is refused, all places are as they were. [F4, A8.1]
 pub record Classified (p b : List ℕ) (tn : ℕ) (before after : List ℕ) (r : ℕ) : Type 0 where
   pub said : r ≡ answerFor p b tn (length before)
   pub wrote : after ≡ cond (eqb (answerFor p b tn (length before)) 0) (classesFor p b tn) before
