@@ -14,9 +14,6 @@ pub const EVENTS: usize = 4;
 
 const PLACE: usize = 5;
 
-// The largest number to which a digit can be put.
-const MOST_TENTH: u64 = 1_844_674_407_370_955_160;
-
 // A TN alone, with kind and version 0, or an event's.
 pub struct Question {
     pub asked: bool,
@@ -50,40 +47,6 @@ pub fn fits() -> bool {
     }
 }
 
-// A digit's number; more than 9 for any other byte.
-fn number(digit: u8) -> u8 {
-    if digit < b'0' {
-        return 255;
-    }
-    digit - b'0'
-}
-
-// One more digit; 0 where it is none or the number too large.
-fn longer(n: u64, digit: u8) -> u64 {
-    let last = number(digit);
-    if last > 9 {
-        return 0;
-    }
-    if n >= MOST_TENTH {
-        return 0;
-    }
-    n * 10 + last as u64
-}
-
-// The number that digits are, the first of them not 0; otherwise 0.
-fn number_in(text: &[u8]) -> u64 {
-    let mut n: u64 = 0;
-    let mut i: usize = 0;
-    while i < text.len() {
-        n = longer(n, text[i]);
-        if n == 0 {
-            return 0;
-        }
-        i += 1;
-    }
-    n
-}
-
 // The TN that ten digits are; what is none is told with the answer.
 fn of_tn() -> Question {
     let mut text = [0u8; 10];
@@ -92,7 +55,7 @@ fn of_tn() -> Question {
         asked: true,
         kind: 0,
         version: 0,
-        tn: if n == 10 { number_in(&text) } else { 0 },
+        tn: if n == 10 { decimal::number(&text) } else { 0 },
     }
 }
 
@@ -103,7 +66,7 @@ fn of_event() -> Question {
     }
     let mut text = [0u8; 20];
     let n = os::arg(PLACE, &mut text);
-    let place = number_in(&text[..n]);
+    let place = decimal::number(&text[..n]);
     if place == 0 {
         files::say_of(PLACE, b"no place: they are counted from 1");
         return none();

@@ -26,16 +26,6 @@ const MOST_RETRIES: u8 = 7;
 const ROW: usize = 80;
 
 const BOOK_BYTES: usize = 8712;
-// The largest number to which a digit can be put.
-const MOST_TENTH: u64 = 1_844_674_407_370_955_160;
-
-// A digit's number; more than 9 for any other byte.
-fn number(digit: u8) -> u8 {
-    if digit < b'0' {
-        return 255;
-    }
-    digit - b'0'
-}
 
 // R, or more than 7 where the argument is none.
 fn retries() -> u8 {
@@ -44,33 +34,7 @@ fn retries() -> u8 {
     if n != 1 {
         return 255;
     }
-    number(digit[0])
-}
-
-// One more digit of a place; 0 where it is none or the place too large.
-fn longer(place: u64, digit: u8) -> u64 {
-    let n = number(digit);
-    if n > 9 {
-        return 0;
-    }
-    if place >= MOST_TENTH {
-        return 0;
-    }
-    place * 10 + n as u64
-}
-
-// A place, from 1; 0 where the text is none.
-fn place_in(text: &[u8]) -> u64 {
-    let mut place: u64 = 0;
-    let mut i: usize = 0;
-    while i < text.len() {
-        place = longer(place, text[i]);
-        if place == 0 {
-            return 0;
-        }
-        i += 1;
-    }
-    place
+    decimal::digit(digit[0])
 }
 
 // Whether the table is sound; if not, says so.
@@ -242,7 +206,7 @@ fn from() -> u64 {
     }
     let mut text = [0u8; 20];
     let n = os::arg(2, &mut text);
-    place_in(&text[..n])
+    decimal::number(&text[..n])
 }
 
 fn main() {
