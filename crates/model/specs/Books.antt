@@ -1,6 +1,6 @@
 -- Names and books, second part: the books, lent and only read. [B6]
 -- Assumes nothing.
-use Prim.Native.Nat.{ℕ}
+use Prim.Native.Nat.{ℕ, _+_, _*_, _/_, _%_}
 use mathlib.Core.Bool.{Bool, true, cond, not, _&&_, _||_}
 use mathlib.Core.List.{List, [], _∷_}
 use lib.Dec.{eqb, ltb, leb}
@@ -63,6 +63,18 @@ filtersIn p c xs = any (λ (x : Filter). eqb (x .provider) p && eqb (x .code) c)
 
 unfoldable pub filters : Books → ℕ → ℕ → Bool
 filters bk p c = filtersIn p c (bk .filters)
+
+-- The TN under another code: the last four digits stay.
+abbrev pub underCode : ℕ → ℕ → ℕ
+underCode c tn = c * 10000 + tn % 10000
+
+abbrev pub smaller : ℕ → ℕ → ℕ
+smaller a b = cond (leb a b) a b
+
+-- Two TNs that differ only by the two codes of a split pair name one line: the line of a TN is the TN, or in a pair the TN under the smaller code.
+unfoldable pub lineIn : List Split → ℕ → ℕ
+lineIn xs tn =
+    cond (eqb (partnerIn (tn / 10000) xs) 0) tn (underCode (smaller (tn / 10000) (partnerIn (tn / 10000) xs)) tn)
 
 -- The number that an event is about: the TN itself. (Request A3 makes it the line.)
 abbrev pub lineOf : Books → ℕ → ℕ

@@ -179,6 +179,18 @@ worked v = isWorked (v .status)
 unfoldable pub oneEach : List Version → Bool
 oneEach r = leb (count live r) 1 && leb (count sends r) 1 && leb (count worked r) 1
 
+-- the version has that number
+abbrev pub numbered : ℕ → Version → Bool
+numbered n v = eqb (v .id .number) n
+
+-- no version number twice
+unfoldable pub noneTwice : List Version → Bool
+noneTwice r = all (λ (v : Version). leb (count (numbered (v .id .number)) r) 1) r
+
+-- the rows of one line may stand together [V11]
+unfoldable pub soundLine : List Version → Bool
+soundLine r = oneEach r && noneTwice r
+
 -- ---- a table
 
 -- strictly rising by TN and then version number [T2]
