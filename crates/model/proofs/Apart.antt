@@ -92,17 +92,21 @@ module _ (lineOf : ℕ → ℕ) where
   and-false true false c h = refl
   and-false false b c h = refl
 
-  no-mail : (l : ℕ) (ms : List Message) (x : Bool) (s n : ℕ) → About l ms → (lineOf n ≡ l → ⊥) → mailOf x s n ms ≡ []
-  no-mail l ms x s n h k =
-      keep-none (isFor x s n) (λ (m : Message). lineOf (m .id .tn .0) ≡ l) ms h
-      (λ m e. and-false (iff (m .local) x) (eqb (m .provider) s) (eqb (m .id .tn .0) n) (λ q. k (ap lineOf (sym (eqb-true (m .id .tn .0) n q)) ∙ e)))
+  abbrev mail : Bool → ℕ → ℕ → List Message → List Message
+  mail x s n ms = mailOf lineOf x s n ms
 
-  mail-comm : (l m : ℕ) (a b : List Message) (x : Bool) (s n : ℕ) → About l a → About m b → (l ≡ m → ⊥) → mailOf x s n (a ++ b) ≡ mailOf x s n (b ++ a)
-  mail-comm l m a b x s n h k ne = keep-append (isFor x s n) a b ∙ go (eqb (lineOf n) l) refl ∙ sym (keep-append (isFor x s n) b a)
+  no-mail : (l : ℕ) (ms : List Message) (x : Bool) (s n : ℕ) → About l ms → (n ≡ l → ⊥) → mail x s n ms ≡ []
+  no-mail l ms x s n h k =
+      keep-none (isFor lineOf x s n) (λ (m : Message). lineOf (m .id .tn .0) ≡ l) ms h
+      (λ m e. and-false (iff (m .local) x) (eqb (m .provider) s) (eqb (lineOf (m .id .tn .0)) n)
+      (λ q. k (sym (eqb-true (lineOf (m .id .tn .0)) n q) ∙ e)))
+
+  mail-comm : (l m : ℕ) (a b : List Message) (x : Bool) (s n : ℕ) → About l a → About m b → (l ≡ m → ⊥) → mail x s n (a ++ b) ≡ mail x s n (b ++ a)
+  mail-comm l m a b x s n h k ne = keep-append (isFor lineOf x s n) a b ∙ go (eqb n l) refl ∙ sym (keep-append (isFor lineOf x s n) b a)
     where
-      go : (q : Bool) → eqb (lineOf n) l ≡ q → mailOf x s n a ++ mailOf x s n b ≡ mailOf x s n b ++ mailOf x s n a
-      go true e = rw (no-mail m b x s n k (λ z. ne (sym (eqb-true (lineOf n) l e) ∙ z))) (append-nil (mailOf x s n a))
-      go false e = rw (no-mail l a x s n h (eqb-false (lineOf n) l e)) (sym (append-nil (mailOf x s n b)))
+      go : (q : Bool) → eqb n l ≡ q → mail x s n a ++ mail x s n b ≡ mail x s n b ++ mail x s n a
+      go true e = rw (no-mail m b x s n k (λ z. ne (sym (eqb-true n l e) ∙ z))) (append-nil (mail x s n a))
+      go false e = rw (no-mail l a x s n h (eqb-false n l e)) (sym (append-nil (mail x s n b)))
 
   -- ---- two events of different lines
   module _ (rule : Rule) (loc : Local rule) (cap : ℕ) where
@@ -121,7 +125,7 @@ module _ (lineOf : ℕ → ℕ) where
         (rows-out (lineOf (e .tn .0)) (lineOf (f .tn .0)) ((stepBy lineOf rule cap e t) .does) t ((fine e t) .near) n)
 
     pub apart : (e f : Event) (t : List Version) → (lineOf (e .tn .0) ≡ lineOf (f .tn .0) → ⊥) → Rising t → length t + 2 ≤ cap
-        → Commutes (stepBy lineOf rule cap) e f t
+        → Commutes lineOf (stepBy lineOf rule cap) e f t
     apart e f t n r h =
         let E : Result = stepBy lineOf rule cap e t in
         let F : Result = stepBy lineOf rule cap f t in
@@ -133,8 +137,8 @@ module _ (lineOf : ℕ → ℕ) where
               ∙ ap (λ (x : Result). changes (x .does) (changes (F .does) t)) (sym q);
           first = ap (λ (x : Result). x .out) q;
           second = ap (λ (x : Result). x .out) p;
-          mail = λ a. ap (λ (x : Result). keep (reads a) (E .sent ++ x .sent)) p
-              ∙ mail-comm (lineOf (e .tn .0)) (lineOf (f .tn .0)) (E .sent) (F .sent) (a .local) (a .provider) (a .number)
+          mail = λ a. ap (λ (x : Result). keep (reads lineOf a) (E .sent ++ x .sent)) p
+              ∙ mail-comm (lineOf (e .tn .0)) (lineOf (f .tn .0)) (E .sent) (F .sent) (a .local) (a .provider) (a .line)
               ((fine e t) .about) ((fine f t) .about) n
-              ∙ ap (λ (x : Result). keep (reads a) (F .sent ++ x .sent)) (sym q);
+              ∙ ap (λ (x : Result). keep (reads lineOf a) (F .sent ++ x .sent)) (sym q);
         }

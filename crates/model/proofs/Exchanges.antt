@@ -106,18 +106,20 @@ module _ {State Entry Gets Sent Reader : Type 0} (does : Stepping State Entry Ge
 abbrev pub stepping : Step → Stepping (List Version) Event Outcome Message
 stepping step = record { next = after step; gets = λ e t. step e t .out; sends = λ e t. step e t .sent }
 
--- a system, and a number that it is told about
+-- a system, and a line that it is told about
 pub record Reader : Type 0 where
   pub local : Bool
   pub provider : ℕ
-  pub number : ℕ
+  pub line : ℕ
 
-abbrev pub reads : Reader → Message → Bool
-reads r m = isFor (r .local) (r .provider) (r .number) m
+module _ (line : ℕ → ℕ) where
+  abbrev pub reads : Reader → Message → Bool
+  reads r m = isFor line (r .local) (r .provider) (r .line) m
 
-abbrev pub Commutes : Step → Event → Event → List Version → Type 0
-Commutes step e f t = Commute (stepping step) reads e f t
+  abbrev pub Commutes : Step → Event → Event → List Version → Type 0
+  Commutes step e f t = Commute (stepping step) reads e f t
 
-pub same-events : (step : Step) (ns : List ℕ) (es : List Event) (t : List Version) → Alike (stepping step) reads ns es t → Same step ns es t
-same-events step ns es t a =
-    record { tables = a .states; outs = a .outs; mail = λ x p n. a .mail (record { local = x; provider = p; number = n }) }
+  pub same-events : (step : Step) (ns : List ℕ) (es : List Event) (t : List Version) → Alike (stepping step) reads ns es t
+      → Same line step ns es t
+  same-events step ns es t a =
+      record { tables = a .states; outs = a .outs; mail = λ x p l. a .mail (record { local = x; provider = p; line = l }) }

@@ -2,6 +2,7 @@ pub mod Lists
 pub mod Order
 pub mod Outcomes
 pub mod TableLaws
+pub mod Numbered
 pub mod Ways
 pub mod Stays
 pub mod Exchanges

@@ -1,6 +1,6 @@
 -- The rules are local: each answer keeps to the event's number. The proof has the shape of the rules.
 -- Assumes nothing.
-use mathlib.Core.Path.{_≡_, refl, ap}
+use mathlib.Core.Path.{_≡_, refl}
 use Prim.Native.Nat.{ℕ, _+_}
 use mathlib.Core.Bool.{Bool, true, false, cond, _&&_}
 use mathlib.Core.Option.{some}
@@ -8,12 +8,12 @@ use mathlib.Core.List.{List, [], _∷_, _++_, map}
 use lib.Dec.{eqb}
 use native.Mathlib.Omega.{arith}
 use Rattle.model.specs.Basics.{keep, none, with}
-use Rattle.model.specs.Books.{Books, lineOf}
-use Rattle.model.specs.Table.{put, add, strike, find, others, notNamed}
-use Rattle.model.specs.Sound.{live, worked}
+use Rattle.model.specs.Books.{Books}
+use Rattle.model.specs.Table.{put, add, strike}
+use Rattle.model.specs.Sound.{numbered, live, worked}
 use Rattle.model.specs.Record.{wellFormed}
 use Rattle.model.specs.Selection.{selectedFor}
-use Rattle.model.specs.Given.{Given, refuse, accept, nameIn, rest}
+use Rattle.model.specs.Given.{Given, refuse, accept, otherThan, found, rest}
 use Rattle.model.specs.Tray.{toSoas, message, sidesTold, members, downloads, downloadTo, restatedTold, toldAtClose}
 use Rattle.model.specs.Creates.{creates, freshVersion, concurred}
 use Rattle.model.specs.Changes.{modifies, modified, newModified, oldModified, turns, cancelled, acknowledged, resolved, windowMarked}
@@ -24,7 +24,7 @@ use Rattle.model.specs.Answers.{answers, heard, askedAgain, again}
 use Rattle.model.specs.Step.{manages, accepted, judged, rule, Setting}
 use Rattle.model.proofs.Lists.{either, all-cond, all-append, all-map, all-any, all-keep, all-first}
 use Rattle.model.proofs.Ways.{by-test, by-way, by-worked, by-kind, by-order}
-use Rattle.model.proofs.TableLaws.{adds, find-name}
+use Rattle.model.proofs.TableLaws.{adds}
 use Rattle.model.proofs.Apart.{Rule, Near, About, Rows, Fine, Local}
 use Rattle.model.specs.declared.Id.{Id}
 use Rattle.model.specs.declared.Lrn.{Lrn}
@@ -112,9 +112,6 @@ module _ (lineOf : ℕ → ℕ) (e : Event) where
   abbrev Own : Version → Type 0
   Own v = lineOf (v .id .tn .0) ≡ L
 
-  named : (r : List Version) (v : Version) → find (nameIn e) r ≡ some v → Own v
-  named r v h = ap (λ (k : Id). lineOf (k .tn .0)) (find-name (nameIn e) r v h)
-
   fine-answers : (most : ℕ) (v : Version) (others : List Version) → Own v → Rows lineOf L others → Fine lineOf L (answers most e v others)
   unfolding answers heard askedAgain
   fine-answers most v others h k =
@@ -177,11 +174,12 @@ fine-accepted : (lineOf : ℕ → ℕ) (g : Given) → Rows lineOf (lineOf (g .e
 fine-accepted lineOf g h =
     let e : Event = g .event in
     let l : ℕ = lineOf (e .tn .0) in
-    let others-in : Rows lineOf l (rest g) = all-keep (λ (w : Version). notNamed (nameIn e) (w .id)) h in
+    let others-in : Rows lineOf l (rest g) = all-keep (λ (w : Version). otherThan (e .version) (w .id)) h in
+    let own : (v : Version) → found g ≡ some v → lineOf (v .id .tn .0) ≡ l = λ v q. all-first (numbered (e .version)) v h q in
     by-kind (Fine lineOf l) g (record {
       create = λ _. fine-creates lineOf e (g .rows) h;
-      answer = λ _ _ v q. fine-answers lineOf e (g .most) v (rest g) (named lineOf e (g .rows) v q) others-in;
-      manage = λ _ _ v q. fine-manages lineOf e (g .books) v (rest g) (named lineOf e (g .rows) v q) others-in;
+      answer = λ _ _ v q. fine-answers lineOf e (g .most) v (rest g) (own v q) others-in;
+      manage = λ _ _ v q. fine-manages lineOf e (g .books) v (rest g) (own v q) others-in;
       unknown = fine-refuse lineOf l Unknown;
     })
 

@@ -11,7 +11,6 @@ use borrow.Author.Tests.{leb-true, not-false}
 use Rattle.model.specs.Basics.{none, with}
 use Rattle.model.specs.Books.{soundBooks, soundRetries}
 use Rattle.model.specs.Sound.{soundTable}
-use Rattle.model.specs.Given.{nameIn}
 use Rattle.model.specs.Step.{Setting, Step, line, unsound, PLACES, step, stepOf, after, final, outcomes, messages}
 use Rattle.model.specs.Exchange.{Answers, Exchangeable, lines, answers, May, Same, reorder, mailOf, Demand3}
 use Rattle.model.proofs.Lists.{conj-at, conj-all}
@@ -46,24 +45,24 @@ module _ (s : Setting) (small : s .most ≤ 7) where
 
   -- of different numbers: this knows of the rules only that they are local
   commute-lines : (n : ℕ) (e f : Event) (t : List Version) → (line s (e .tn .0) ≡ line s (f .tn .0) → ⊥) → Good (s .rows) (suc (suc n)) t
-      → Commutes (bare s) e f t
+      → Commutes (line s) (bare s) e f t
   commute-lines n e f t d g =
       apart (line s) (ruleIn s) (local (line s) s) (s .rows) e f t d (g .rising) (let h : length t + suc (suc n) ≤ s .rows = g .room in omega arith)
 
   -- answers for one version: this knows the rule of answers
-  commute-answers : (n : ℕ) (e f : Event) (t : List Version) → Answers e f → Good (s .rows) (suc (suc n)) t → Commutes (bare s) e f t
+  commute-answers : (n : ℕ) (e f : Event) (t : List Version) → Answers (line s) e f → Good (s .rows) (suc (suc n)) t → Commutes (line s) (bare s) e f t
   commute-answers n e f t a g =
-      replies-commute (line s) s small (nameIn e) (line s (e .tn .0)) t (g .rising) e f (a .first) (a .second) refl
-      (λ i. record { tn = record { 0 = sym (a .tns) i }; number = sym (a .versions) i }) refl (ap (line s) (sym (a .tns))) (a .systems)
+      replies-commute (line s) s small (e .version) (line s (e .tn .0)) t (g .rising) e f (a .first) (a .second) refl (sym (a .versions)) refl
+      (sym (a .lines)) (a .systems)
 
-  commute : (n : ℕ) (e f : Event) (t : List Version) → Exchangeable (line s) e f → Good (s .rows) (suc (suc n)) t → Commutes (bare s) e f t
+  commute : (n : ℕ) (e f : Event) (t : List Version) → Exchangeable (line s) e f → Good (s .rows) (suc (suc n)) t → Commutes (line s) (bare s) e f t
   commute n e f t (lines d) g = commute-lines n e f t d g
   commute n e f t (answers a) g = commute-answers n e f t a g
 
-  bare-same : (ns : List ℕ) (es : List Event) (t : List Version) → Rising t → length t + length es ≤ s .rows → May (Exchangeable (line s)) ns es → Same (bare s) ns es t
+  bare-same : (ns : List ℕ) (es : List Event) (t : List Version) → Rising t → length t + length es ≤ s .rows → May (Exchangeable (line s)) ns es → Same (line s) (bare s) ns es t
   bare-same ns es t r room may =
-      same-events (bare s) ns es t
-      (all (stepping (bare s)) reads (Good (s .rows)) next (Exchangeable (line s)) commute ns es t may (record { rising = r; room = room }))
+      same-events (line s) (bare s) ns es t
+      (all (stepping (bare s)) (reads (line s)) (Good (s .rows)) next (Exchangeable (line s)) commute ns es t may (record { rising = r; room = room }))
 
 -- ---- with it: where every step keeps a table that passes, the test changes nothing
 
@@ -109,11 +108,12 @@ module _ (s : Setting) where
   same-messages [] t h = refl
   same-messages (e ∷ es) t h = rw (step-is s e t h) (ap (λ (l : List Message). bare s e t .sent ++ l) (same-messages es (after (bare s) e t) (bare-keeps s e t h)))
 
-  pub same-guarded : (ns : List ℕ) (es : List Event) (t : List Version) → unsound s t ≡ false → Same (bare s) ns es t → Same (stepOf s) ns es t
+  pub same-guarded : (ns : List ℕ) (es : List Event) (t : List Version) → unsound s t ≡ false → Same (line s) (bare s) ns es t → Same (line s) (stepOf s) ns es t
   same-guarded ns es t h r = record {
     tables = same-final (reorder ns es) t h ∙ r .tables ∙ sym (same-final es t h);
     outs = same-outcomes (reorder ns es) t h ∙ r .outs ∙ ap (reorder ns) (sym (same-outcomes es t h));
-    mail = λ x p n. ap (mailOf x p n) (same-messages (reorder ns es) t h) ∙ r .mail x p n ∙ ap (mailOf x p n) (sym (same-messages es t h));
+    mail = λ x p l. ap (mailOf (line s) x p l) (same-messages (reorder ns es) t h) ∙ r .mail x p l
+        ∙ ap (mailOf (line s) x p l) (sym (same-messages es t h));
   }
 
 pub reordering : Demand3

@@ -10,11 +10,11 @@ use native.Mathlib.Omega.{arith}
 use Rattle.model.specs.Basics.{among, any, isNone, none, with}
 use Rattle.model.specs.Numbers.{isSet, codeOf}
 use Rattle.model.specs.Books.{Books}
-use Rattle.model.specs.Table.{put, add, change, find, others}
+use Rattle.model.specs.Table.{put, add, change, find}
 use Rattle.model.specs.Sound.{pending, conflict, cancelPending, no, isSending, isWorked, activate, count, live, sends, worked}
 use Rattle.model.specs.Record.{isCreate, isModify, isAnswer, isBroadcast, wellFormed}
 use Rattle.model.specs.Selection.{selectedFor, selects}
-use Rattle.model.specs.Given.{accept, nameIn, newest, workedOne}
+use Rattle.model.specs.Given.{accept, newest, workedOne}
 use Rattle.model.specs.Creates.{oldIn, oldAbsent, oldJoined, freshVersion, fits, concurred, createOn, creates}
 use Rattle.model.specs.Changes.{newModified, oldModified, modifies, turns, cancelled, acknowledged, resolved, windowTurned}
 use Rattle.model.specs.Changes.{windowMarked, windowMarks}
@@ -24,7 +24,7 @@ use Rattle.model.specs.Refusals.{busyWith}
 use Rattle.model.specs.Step.{purges, manages}
 use Rattle.model.proofs.Lists.{clash, either, or-off, all-first, first-true, or-but, back-equal}
 use Rattle.model.proofs.Ways.{by-way, by-worked}
-use Rattle.model.proofs.TableLaws.{Rising, find-name}
+use Rattle.model.proofs.TableLaws.{Rising, others, find-name}
 use Rattle.model.proofs.Formed.{Fields, fields, answering-named}
 use Rattle.model.proofs.Stays.{Stays, concurred-stays, new-modified-stays, old-modified-stays, cancelled-stays, acknowledged-stays}
 use Rattle.model.proofs.Stays.{resolved-stays, window-marked-stays, window-turned-stays, opened-stays, heard-stays}
@@ -90,11 +90,11 @@ unfolding heard
 heard-worked most e v = refl
 
 module _ (lineOf : ℕ → ℕ) (e : Event) (formed : wellFormed e ≡ true) (r : List Version) (g : Ground lineOf (lineOf (e .tn .0)) r) where
-  abbrev K : Id
-  K = nameIn e
-
   -- ---- an event of kinds 3 to 10 and 13 to 15, for the version v
-  module _ (v : Version) (h : find (nameIn e) r ≡ some v) (al : Allowed e v) where
+  module _ (v : Version) (h : find (v .id) r ≡ some v) (al : Allowed e v) where
+    abbrev K : Id
+    K = v .id
+
     row : Row v
     row = all-find K v (g .rows) h
 
@@ -189,7 +189,7 @@ module _ (lineOf : ℕ → ℕ) (e : Event) (formed : wellFormed e ≡ true) (r 
         W = opened S e v
 
         same : W .id ≡ K
-        same = opened-stays S e v .name ∙ find-name K r v h
+        same = opened-stays S e v .name
 
         alone : count sends (others K r) ≡ 0
         alone = any-none sends (others K r) free
@@ -242,16 +242,17 @@ module _ (lineOf : ℕ → ℕ) (e : Event) (formed : wellFormed e ≡ true) (r 
           (row-concurred e formed v row k works (fit v q))
 
   -- ---- answers
-  pub keeps-answers : (most : ℕ) → most ≤ 7 → (v : Version) → find K r ≡ some v → isAnswer (e .kind) ≡ true → awaited e v ≡ true → Keeps r (answers most e v (others K r))
+  pub keeps-answers : (most : ℕ) → most ≤ 7 → (v : Version) → find (v .id) r ≡ some v → isAnswer (e .kind) ≡ true → awaited e v ≡ true
+      → Keeps r (answers most e v (others (v .id) r))
   unfolding answers
   keeps-answers most small v h a aw =
-      keeps-settled K r v (g .rising) (g .rows) (g .line) h alone W same _ casting line-heard lasts
+      keeps-settled (v .id) r v (g .rising) (g .rows) (g .line) h alone W same _ casting line-heard lasts
     where
       f : Fields e
       f = fields e formed
 
       row : Row v
-      row = all-find K v (g .rows) h
+      row = all-find (v .id) v (g .rows) h
 
       sys : (1 ≤ answering e) × (answering e < 64)
       sys = answering-named e formed a
@@ -265,15 +266,15 @@ module _ (lineOf : ℕ → ℕ) (e : Event) (formed : wellFormed e ≡ true) (r 
       W : Version
       W = heard most e v
 
-      same : W .id ≡ K
-      same = heard-stays most e v .name ∙ find-name K r v h
+      same : W .id ≡ v .id
+      same = heard-stays most e v .name
 
-      alone : count sends (others K r) ≡ 0
-      alone = omega (arith, g .line .sends, count-found sends K r v (g .rising) h, ap one on)
+      alone : count sends (others (v .id) r) ≡ 0
+      alone = omega (arith, g .line .sends, count-found sends (v .id) r v (g .rising) h, ap one on)
 
       line-heard : Line (change (put W) r)
       line-heard =
-          line-put K r v (g .rising) (g .line) h W same (le-one (heard-stays most e v .live))
+          line-put (v .id) r v (g .rising) (g .line) h W same (le-one (heard-stays most e v .live))
           (le-one (heard-sends most e v)) (le-one (heard-worked most e v))
 
       lasts : eqb (W .cast .purpose) activate ≡ false → v .live ≡ true

@@ -10,18 +10,18 @@ use lib.ListN.{length}
 use native.Mathlib.Omega.{arith}
 use borrow.Author.Tests.{eqb-true, eqb-false}
 use Rattle.model.specs.Basics.{keep, All, none, with}
-use Rattle.model.specs.Table.{order, Change, put, add, strike, nameOf, miss, hit, change, changes, find, notNamed, others, rowsOf}
+use Rattle.model.specs.Table.{order, Change, put, add, strike, nameOf, miss, hit, change, changes, find, rowsOf}
 use Rattle.model.specs.Sound.{live, sends, count}
 use Rattle.model.specs.Given.{Result, refuse, accept}
 use Rattle.model.specs.Closing.{open?, closed, retired, retiring, retires, takesOver, settled, settles}
 use Rattle.model.specs.Sound.{activate}
 use Rattle.model.specs.Step.{after}
 use Rattle.model.proofs.Lists.{all-keep, all-map, all-both, all-cond, passed}
-use Rattle.model.proofs.TableLaws.{Rising, rising-changes, rising-part}
+use Rattle.model.proofs.TableLaws.{Rising, notNamed, others, rising-changes, rising-part}
 use Rattle.model.proofs.Apart.{Rule, stepBy, Rows, Local, rows-rows, rows-out, rows-in, fine}
 use Rattle.model.proofs.SoundRows.{Row}
 use Rattle.model.proofs.SoundCasts.{Casting, row-open, row-closed, row-retired, at-closed}
-use Rattle.model.proofs.SoundLines.{Line, one, none-counted, line-put, line-retire}
+use Rattle.model.proofs.SoundLines.{Line, Distinct, one, none-counted, line-put, line-retire}
 use Rattle.model.specs.declared.Id.{Id}
 use Rattle.model.specs.declared.Version.{Version}
 use Rattle.model.specs.declared.Event.{Event}
@@ -69,20 +69,24 @@ pub record Ground (lineOf : ℕ → ℕ) (l : ℕ) (r : List Version) : Type 0 w
   pub rising : Rising r
   pub rows : All Row r
   pub line : Line r
+  pub numbers : Distinct r
 
 -- a table, as the rules count on it
 pub record Sound (line : ℕ → ℕ) (t : List Version) : Type 0 where
   pub rising : Rising t
   pub rows : All Row t
   pub lines : (l : ℕ) → Line (rowsOf line l t)
+  pub numbers : (l : ℕ) → Distinct (rowsOf line l t)
 
 module _ (line : ℕ → ℕ) (rule : Rule) (loc : Local line rule) (cap : ℕ)
-    (keeps : (b : Bool) (e : Event) (r : List Version) → Ground line (line (e .tn .0)) r → Keeps r (rule b e r)) where
+    (keeps : (b : Bool) (e : Event) (r : List Version) → Ground line (line (e .tn .0)) r → Keeps r (rule b e r))
+    (apart : (b : Bool) (e : Event) (r : List Version) → Distinct r → Distinct (changes (rule b e r .does) r)) where
   pub sound-after : (e : Event) (t : List Version) → Sound line t → Sound line (after (stepBy line rule cap) e t)
   sound-after e t s = record {
     rising = rising-changes cs t (s .rising);
     rows = all-changes Row cs t (k .rows) (s .rows);
-    lines = λ l. go l (eqb (line (e .tn .0)) l) refl;
+    lines = λ l. go Line l (k .line) (s .lines l) (eqb (line (e .tn .0)) l) refl;
+    numbers = λ l. go Distinct l (apart (ltb (length t) cap) e r (s .numbers L)) (s .numbers l) (eqb (line (e .tn .0)) l) refl;
   }
     where
       L : ℕ
@@ -95,12 +99,15 @@ module _ (line : ℕ → ℕ) (rule : Rule) (loc : Local line rule) (cap : ℕ)
       cs = stepBy line rule cap e t .does
 
       k : Keeps r (stepBy line rule cap e t)
-      k = keeps (ltb (length t) cap) e r (record { own = rows-rows line L t; rising = rising-part _ t (s .rising); rows = all-keep _ (s .rows); line = s .lines L })
+      k = keeps (ltb (length t) cap) e r (record { own = rows-rows line L t; rising = rising-part _ t (s .rising); rows = all-keep _ (s .rows); line = s .lines L; numbers = s .numbers L })
 
-      go : (l : ℕ) (b : Bool) → eqb (line (e .tn .0)) l ≡ b → Line (rowsOf line l (changes cs t))
-      go l true q =
-          subst (λ (m : ℕ). Line (rowsOf line m (changes cs t))) (eqb-true L l q) (rw (rows-in line L cs t (fine line rule loc cap e t .near) (s .rising)) (k .line))
-      go l false q = rw (rows-out line L l cs t (fine line rule loc cap e t .near) (eqb-false L l q)) (s .lines l)
+      -- what holds of the event's rows after it, and of another line's before it, holds of each line's after it
+      go : (P : List Version → Type 0) (l : ℕ) → P (changes cs r) → P (rowsOf line l t) → (b : Bool) → eqb (line (e .tn .0)) l ≡ b
+          → P (rowsOf line l (changes cs t))
+      go P l own other true q =
+          subst (λ (m : ℕ). P (rowsOf line m (changes cs t))) (eqb-true L l q)
+          (rw (rows-in line L cs t (fine line rule loc cap e t .near) (s .rising)) own)
+      go P l own other false q = rw (rows-out line L l cs t (fine line rule loc cap e t .near) (eqb-false L l q)) other
 
 -- ---- the shapes of answers
 

@@ -1,20 +1,23 @@
 -- The rows of one number: how many are live, sending and worked, and how changes move these counts.
 -- Assumes nothing.
 use mathlib.Core.Path.{_≡_, refl, sym, ap, ap₂, _∙_, subst}
-use Prim.Native.Nat.{ℕ, _+_, _≤_, Ordering, Ordering·lt, Ordering·eq, Ordering·gt}
+use Prim.Native.Nat.{ℕ, _+_, _≤_, _<_, Ordering, Ordering·lt, Ordering·eq, Ordering·gt}
 use mathlib.Core.Bool.{Bool, true, false, cond}
 use mathlib.Core.List.{List, [], _∷_, map}
 use mathlib.Core.Option.{none as nothing, some}
+use lib.Dec.{eqb}
 use lib.ListN.{length}
 use native.Mathlib.Omega.{arith}
+use borrow.Author.Tests.{eqb-true}
 use Rattle.model.specs.Basics.{keep, first, any, All, none, with}
-use Rattle.model.specs.Table.{order, put, add, strike, change, changes, find, notNamed, others}
-use Rattle.model.specs.Sound.{count, live, sends, worked}
+use Rattle.model.specs.Table.{order, Change, put, add, strike, change, changes, find}
+use Rattle.model.specs.Sound.{count, numbered, live, sends, worked}
 use Rattle.model.specs.Closing.{retired}
-use Rattle.model.proofs.Lists.{clash, all-keep, all-both, head-of, passed}
+use Rattle.model.proofs.Lists.{clash, all-keep, all-both, all-first, head-of, passed}
 use Rattle.model.proofs.Order.{order-self, order-eq, order-gt, order-lt}
-use Rattle.model.proofs.TableLaws.{Under, Rising, under-tail, find-put, find-other, part-out, rising-change}
-use Rattle.model.proofs.Replies.{out-named}
+use Rattle.model.proofs.TableLaws.{Under, Rising, fresh, adds, notNamed, others, under-tail, above, find-put, find-other, part-out, rising-change}
+use Rattle.model.proofs.Numbered.{with-above}
+use Rattle.model.specs.Given.{withNumber, besides, newest}
 use Rattle.model.specs.declared.Id.{Id}
 use Rattle.model.specs.declared.Version.{Version}
 
@@ -109,9 +112,12 @@ any-none p (x ∷ xs) h = go (p x) refl (any-none p xs)
 
 -- ---- the line
 
-pub above : (k : Id) (r : List Version) → Under k r → Rising r → All (λ (x : Version). order k (x .id) ≡ Ordering·lt) r
-above k [] h s = none
-above k (x ∷ xs) h s = with h (above k xs (under-tail k x xs h s) (s .1))
+-- what has not that name has another
+out-named : (k j : Id) → notNamed k j ≡ true → k ≡ j → ⊥
+out-named k j h e = clash (sym (named-out k j (sym e)) ∙ h)
+  where
+    named-out : (k : Id) (j : Id) → j ≡ k → notNamed k j ≡ false
+    named-out k j e = rw (e, order-self k)
 
 -- a row is found by its own name
 pub found-self : (r : List Version) → Rising r → All (λ (x : Version). find (x .id) r ≡ some x) r
@@ -181,3 +187,80 @@ none-counted p (x ∷ xs) c = go (p x) refl (none-counted p xs)
     go : (b : Bool) → p x ≡ b → (count p xs ≡ 0 → All (λ (y : Version). p y ≡ false) xs) → All (λ (y : Version). p y ≡ false) (x ∷ xs)
     go true e ih = absurd (omega (arith, count-cons p x xs, ap one e))
     go false e ih = with e (ih (omega (arith, count-cons p x xs)))
+
+-- ---- the version of a number, in a line that has no number twice
+
+pub record Distinct (r : List Version) : Type 0 where
+  pub once : (n : ℕ) → count (numbered n) r ≤ 1
+
+pub with-named : (n : ℕ) (r : List Version) (v : Version) → Rising r → withNumber n r ≡ some v → find (v .id) r ≡ some v
+with-named n r v s q = all-first {P = λ (x : Version). find (x .id) r ≡ some x} (numbered n) v (found-self r s) q
+
+-- none of the rows has the number: all are others
+besides-all : (n : ℕ) (r : List Version) → All (λ (x : Version). numbered n x ≡ false) r → besides n r ≡ r
+besides-all n [] none = refl
+besides-all n (x ∷ xs) (with h hs) = rw h (ap (λ (l : List Version). x ∷ l) (besides-all n xs hs))
+
+pub besides-others : (n : ℕ) (r : List Version) (v : Version) → Rising r → count (numbered n) r ≤ 1 → withNumber n r ≡ some v
+    → besides n r ≡ others (v .id) r
+besides-others n [] v s d q = absurd (let z : _≡_ {A = ℕ} 0 1 = cc in omega arith)
+besides-others n (x ∷ xs) v s d q = go (numbered n x) refl (besides-others n xs v (s .1))
+  where
+    go : (b : Bool) → numbered n x ≡ b → (count (numbered n) xs ≤ 1 → withNumber n xs ≡ some v → besides n xs ≡ others (v .id) xs)
+        → besides n (x ∷ xs) ≡ others (v .id) (x ∷ xs)
+    go true e ih =
+        let y : x ≡ v = cc (rw e at q) in
+        let z : count (numbered n) xs ≡ 0 = omega (arith, count-cons (numbered n) x xs, ap one e) in
+        rw e (besides-all n xs (none-counted (numbered n) xs z)
+        ∙ sym (subst (λ (w : Version). others (w .id) (x ∷ xs) ≡ xs) y (rw (order-self (x .id)) (others-all (x .id) xs (s .0) (s .1)))))
+    go false e ih =
+        let a : withNumber n xs ≡ some v = rw e at q in
+        let up : order (x .id) (v .id) ≡ Ordering·lt = with-above n x xs v s a in
+        rw (e, up) (ap (λ (l : List Version). x ∷ l) (ih (omega (arith, count-cons (numbered n) x xs)) a))
+
+-- ---- no number twice: what changes leave of it
+
+-- a put and a strike bring no name
+count-kept : (p : Id → Bool) (c : Change) (r : List Version) → fresh c ≡ 0
+    → count (λ (v : Version). p (v .id)) (change c r) ≤ count (λ (v : Version). p (v .id)) r
+count-kept p (add v) r q = absurd (omega (arith, q))
+count-kept p (strike k) r q = count-strike (λ (v : Version). p (v .id)) k r
+count-kept p (put w) [] q = omega arith
+count-kept p (put w) (x ∷ xs) q = go (order (w .id) (x .id)) refl (count-kept p (put w) xs q)
+  where
+    P : Version → Bool
+    P v = p (v .id)
+
+    go : (o : Ordering) → order (w .id) (x .id) ≡ o → count P (change (put w) xs) ≤ count P xs → count P (change (put w) (x ∷ xs)) ≤ count P (x ∷ xs)
+    go Ordering·lt e ih = rw e (omega arith)
+    go Ordering·eq e ih =
+        rw e (omega (arith, count-cons P w xs, count-cons P x xs, ap (λ (k : Id). one (p k)) (order-eq (w .id) (x .id) e)))
+    go Ordering·gt e ih = rw e (omega (arith, count-cons P x xs, count-cons P x (change (put w) xs)))
+
+pub distinct-changes : (cs : List Change) (r : List Version) → adds cs ≡ 0 → Distinct r → Distinct (changes cs r)
+distinct-changes [] r q d = d
+distinct-changes (c ∷ cs) r q d =
+    distinct-changes cs (change c r) (omega (arith, q))
+    (record { once = λ n. omega (arith, d .once n, count-kept (λ (k : Id). eqb (k .number) n) c r (omega (arith, q))) })
+
+-- a number above the newest is nobody's
+newer-none : (n : ℕ) (r : List Version) → newest r < n → count (numbered n) r ≡ 0
+newer-none n [] h = refl
+newer-none n (x ∷ xs) h = go (numbered n x) refl (newer-none n xs (omega (arith, h)))
+  where
+    go : (b : Bool) → numbered n x ≡ b → count (numbered n) xs ≡ 0 → count (numbered n) (x ∷ xs) ≡ 0
+    go true e ih = absurd (omega (arith, h, eqb-true (x .id .number) n e))
+    go false e ih = rw e ih
+
+pub distinct-add : (w : Version) (r : List Version) → newest r < w .id .number → Distinct r → Distinct (change (add w) r)
+distinct-add w r h d = record { once = λ n. go n (numbered n w) refl }
+  where
+    go : (n : ℕ) (b : Bool) → numbered n w ≡ b → count (numbered n) (change (add w) r) ≤ 1
+    go n true e =
+        omega (
+          arith,
+          count-add (numbered n) w r,
+          ap one e,
+          newer-none n r (subst (λ (m : ℕ). newest r < m) (eqb-true (w .id .number) n e) h),
+        )
+    go n false e = omega (arith, count-add (numbered n) w r, ap one e, d .once n)

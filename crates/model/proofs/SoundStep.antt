@@ -12,7 +12,7 @@ use Rattle.model.specs.Books.{soundRetries}
 use Rattle.model.specs.Record.{isCreate, isAnswer, wellFormed}
 use Rattle.model.specs.Outcomes.{isDone, judge, createOrder, answerOrder, otherOrder}
 use Rattle.model.specs.Standing.{standingOf, standsFor, statusFor, gridRule, unready, lacksStanding, wrongStatus}
-use Rattle.model.specs.Given.{Given, found, rest, newest, workedOne}
+use Rattle.model.specs.Given.{Given, besides, found, rest, newest, workedOne}
 use Rattle.model.specs.Creates.{fits, creates}
 use Rattle.model.specs.Answers.{awaited, answers}
 use Rattle.model.specs.Refusals.{busy, unawaited, unfit, exhausted, refuses}
@@ -20,8 +20,10 @@ use Rattle.model.specs.Step.{manages, accepted, judged, Setting}
 use Rattle.model.proofs.Lists.{clash, or-off}
 use Rattle.model.proofs.Ways.{by-test, by-kind, by-order}
 use Rattle.model.proofs.Outcomes.{StandsIn, refusal-passed}
+use Rattle.model.proofs.TableLaws.{others}
 use Rattle.model.proofs.Locality.{ruleIn}
 use Rattle.model.proofs.SoundOpened.{Allowed}
+use Rattle.model.proofs.SoundLines.{with-named, besides-others}
 use Rattle.model.proofs.SoundLaws.{Keeps, Ground, keeps-refuse}
 use Rattle.model.proofs.SoundKinds.{keeps-manages, keeps-creates, keeps-answers}
 use Rattle.model.specs.declared.Event.{Event}
@@ -63,7 +65,9 @@ module _ (lineOf : ℕ → ℕ) (s : Setting) (small : soundRetries (s .most) �
   when-answer : isDone (judge (refuses G) answerOrder) ≡ true → isAnswer (e .kind) ≡ true → (v : Version) → found G ≡ some v
       → Keeps r (answers (s .most) e v (rest G))
   unfolding unawaited
-  when-answer d a v q = keeps-answers lineOf e formed r ground (s .most) few v q a waits
+  when-answer d a v q =
+      rw (besides-others (e .version) r v (ground .rising) (ground .numbers .once (e .version)) q)
+      (keeps-answers lineOf e formed r ground (s .most) few v (with-named (e .version) r v (ground .rising) q) a waits)
     where
       waits : awaited e v ≡ true
       waits = not-false (awaited e v) (rw (a, q) at (refusal-passed (refuses G) answerOrder Unawaited refl refl d))
@@ -72,9 +76,13 @@ module _ (lineOf : ℕ → ℕ) (s : Setting) (small : soundRetries (s .most) �
       → Keeps r (manages (s .books) e v (rest G))
   unfolding busy
   when-other d c v q =
-      keeps-manages lineOf e formed r ground v q (allowed e v (rw q at (past Standless refl)) (rw q at (past Misplaced refl))) (s .books)
-      (rw (c, q) at (past Busy refl))
+      rw same
+      (keeps-manages lineOf e formed r ground v (with-named (e .version) r v (ground .rising) q)
+      (allowed e v (rw q at (past Standless refl)) (rw q at (past Misplaced refl))) (s .books) (rw same at (rw (c, q) at (past Busy refl))))
     where
+      same : besides (e .version) r ≡ others (v .id) r
+      same = besides-others (e .version) r v (ground .rising) (ground .numbers .once (e .version)) q
+
       past : (o : Outcome) → StandsIn o otherOrder → refuses G o ≡ false
       past o i = refusal-passed (refuses G) otherOrder o refl i d
 

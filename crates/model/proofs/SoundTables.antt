@@ -4,29 +4,31 @@ use mathlib.Core.Path.{_≡_, refl, subst}
 use Prim.Native.Nat.{ℕ, _+_, _≤_, _<_, Ordering, Ordering·lt, Ordering·eq, Ordering·gt}
 use mathlib.Core.Bool.{Bool, true, false, cond}
 use mathlib.Core.List.{List, [], _∷_}
-use mathlib.Core.Option.{none as nothing}
+use mathlib.Core.Option.{Option, none as nothing, some}
 use lib.Dec.{leb, ltb}
 use lib.ListN.{length, getD}
 use native.Mathlib.Omega.{arith}
 use borrow.Author.Tests.{leb-true, le-leb, ltb-true, not-false}
 use Rattle.model.specs.Basics.{all, All, none, with}
 use Rattle.model.specs.Books.{soundRetries}
-use Rattle.model.specs.Table.{order, sel, Change, rowsOf, changes}
-use Rattle.model.specs.Sound.{soundVersion, oneEach, above, rising, soundLines, soundTable, count, live, sends, worked}
+use Rattle.model.specs.Table.{order, sel, Change, put, rowsOf, changes}
+use Rattle.model.specs.Sound.{soundVersion, oneEach, numbered, noneTwice, soundLine, above, rising, soundLines, soundTable, count, live, sends, worked}
 use Rattle.model.specs.Record.{isCreate, wellFormed}
 use Rattle.model.specs.Outcomes.{isDone, createOrder}
-use Rattle.model.specs.Given.{Given, Result, rest, workedOne}
+use Rattle.model.specs.Given.{Given, Result, withNumber, rest, workedOne}
+use Rattle.model.specs.Creates.{freshVersion, concurred}
 use Rattle.model.specs.Broadcast.{opened, broadcasts}
 use Rattle.model.specs.Selection.{selectedFor}
 use Rattle.model.specs.Answers.{answers, heard}
 use Rattle.model.specs.Refusals.{full, refuses}
 use Rattle.model.specs.Step.{manages, accepted, judged, Setting, after}
-use Rattle.model.proofs.Lists.{clash, conj-at, conj-all, all-true, true-all, all-keep, all-both, head-of}
+use Rattle.model.proofs.Lists.{clash, and-l, and-r, both-true, all-first, conj-at, conj-all, all-true, true-all, all-keep, all-both, head-of}
 use Rattle.model.proofs.TableLaws.{Under, Rising, adds, length-changes}
 use Rattle.model.proofs.Apart.{stepBy, rows-rows}
 use Rattle.model.proofs.Locality.{ruleIn, local, adds-settles}
 use Rattle.model.proofs.SoundRows.{Row, row-of, of-row}
-use Rattle.model.proofs.SoundLines.{Line}
+use Rattle.model.proofs.SoundLines.{Line, Distinct, first-none, distinct-changes, distinct-add}
+use Rattle.model.proofs.Numbered.{with-number}
 use Rattle.model.proofs.SoundLaws.{Sound, sound-after}
 use Rattle.model.proofs.Ways.{by-test, by-way, by-worked, by-kind, by-order}
 use Rattle.model.proofs.Outcomes.{refusal-passed}
@@ -62,40 +64,72 @@ says-rising (x ∷ xs) r = from-rising (x .id) xs (r .0) (r .1)
 
 -- ---- the rows of one number
 
-line-says : (r : List Version) → oneEach r ≡ true → Line r
+each-says : (r : List Version) → oneEach r ≡ true → Line r
 unfolding oneEach
-line-says r h =
+each-says r h =
     let of : (i : ℕ) → getD (leb (count live r) 1 ∷ leb (count sends r) 1 ∷ leb (count worked r) 1 ∷ []) i true ≡ true
     = conj-at (leb (count live r) 1 ∷ leb (count sends r) 1 ∷ leb (count worked r) 1 ∷ []) h in
     record { lives = leb-true (count live r) 1 (of 0); sends = leb-true (count sends r) 1 (of 1); works = leb-true (count worked r) 1 (of 2) }
 
-says-line : (r : List Version) → Line r → oneEach r ≡ true
+says-each : (r : List Version) → Line r → oneEach r ≡ true
 unfolding oneEach
-says-line r l =
+says-each r l =
     conj-all (leb (count live r) 1 ∷ leb (count sends r) 1 ∷ leb (count worked r) 1 ∷ [])
     (with (le-leb (count live r) 1 (l .lives)) (with (le-leb (count sends r) 1 (l .sends)) (with (le-leb (count worked r) 1 (l .works)) none)))
 
-lines-say : (line : ℕ → ℕ) (t : List Version) → soundLines line t ≡ true → (l : ℕ) → Line (rowsOf line l t)
+-- no number twice
+twice-says : (r : List Version) → noneTwice r ≡ true → Distinct r
+unfolding noneTwice
+twice-says r h = record { once = λ n. go n (withNumber n r) refl }
+  where
+    go : (n : ℕ) (o : Option Version) → withNumber n r ≡ o → count (numbered n) r ≤ 1
+    go n nothing q = omega (arith, first-none (numbered n) r q)
+    go n (some v) q =
+        subst (λ (m : ℕ). count (numbered m) r ≤ 1) (with-number n r v q)
+        (leb-true (count (numbered (v .id .number)) r) 1
+        (all-first (numbered n) v (all-true (λ (x : Version). leb (count (numbered (x .id .number)) r) 1) r h) q))
+
+says-twice : (r : List Version) → Distinct r → noneTwice r ≡ true
+unfolding noneTwice
+says-twice r d = true-all (λ (x : Version). leb (count (numbered (x .id .number)) r) 1) (every r)
+  where
+    every : (l : List Version) → All (λ (x : Version). leb (count (numbered (x .id .number)) r) 1 ≡ true) l
+    every [] = none
+    every (x ∷ xs) = with (le-leb (count (numbered (x .id .number)) r) 1 (d .once (x .id .number))) (every xs)
+
+-- what the rows of a line must be
+abbrev Whole : List Version → Type 0
+Whole r = Line r × Distinct r
+
+line-says : (r : List Version) → soundLine r ≡ true → Whole r
+unfolding soundLine
+line-says r h = (each-says r (and-l (oneEach r) (noneTwice r) h), twice-says r (and-r (oneEach r) (noneTwice r) h))
+
+says-line : (r : List Version) → Whole r → soundLine r ≡ true
+unfolding soundLine
+says-line r w = both-true (oneEach r) (noneTwice r) (says-each r (w .0)) (says-twice r (w .1))
+
+lines-say : (line : ℕ → ℕ) (t : List Version) → soundLines line t ≡ true → (l : ℕ) → Whole (rowsOf line l t)
 unfolding soundLines
 lines-say line t h l = go (rowsOf line l t) refl
   where
     P : Version → Type 0
-    P v = oneEach (rowsOf line (line (v .id .tn .0)) t) ≡ true
+    P v = soundLine (rowsOf line (line (v .id .tn .0)) t) ≡ true
 
     each : All (λ (v : Version). P v × (line (v .id .tn .0) ≡ l)) (rowsOf line l t)
-    each = all-both (λ a p q. (p, q)) (all-keep _ (all-true (λ (v : Version). oneEach (rowsOf line (line (v .id .tn .0)) t)) t h)) (rows-rows line l t)
+    each = all-both (λ a p q. (p, q)) (all-keep _ (all-true (λ (v : Version). soundLine (rowsOf line (line (v .id .tn .0)) t)) t h)) (rows-rows line l t)
 
-    go : (r : List Version) → rowsOf line l t ≡ r → Line (rowsOf line l t)
-    go [] q = rw q (record { lives = omega arith; sends = omega arith; works = omega arith })
+    go : (r : List Version) → rowsOf line l t ≡ r → Whole (rowsOf line l t)
+    go [] q = rw q (record { lives = omega arith; sends = omega arith; works = omega arith }, record { once = λ n. omega arith })
     go (x ∷ xs) q =
         let f : P x × (line (x .id .tn .0) ≡ l) = head-of (subst (All (λ (v : Version). P v × (line (v .id .tn .0) ≡ l))) q each) in
-        line-says (rowsOf line l t) (subst (λ (m : ℕ). oneEach (rowsOf line m t) ≡ true) (f .1) (f .0))
+        line-says (rowsOf line l t) (subst (λ (m : ℕ). soundLine (rowsOf line m t) ≡ true) (f .1) (f .0))
 
-say-lines : (line : ℕ → ℕ) (t : List Version) → ((l : ℕ) → Line (rowsOf line l t)) → soundLines line t ≡ true
+say-lines : (line : ℕ → ℕ) (t : List Version) → ((l : ℕ) → Whole (rowsOf line l t)) → soundLines line t ≡ true
 unfolding soundLines
-say-lines line t f = true-all (λ (v : Version). oneEach (rowsOf line (line (v .id .tn .0)) t)) (every t)
+say-lines line t f = true-all (λ (v : Version). soundLine (rowsOf line (line (v .id .tn .0)) t)) (every t)
   where
-    every : (l : List Version) → All (λ (v : Version). oneEach (rowsOf line (line (v .id .tn .0)) t) ≡ true) l
+    every : (l : List Version) → All (λ (v : Version). soundLine (rowsOf line (line (v .id .tn .0)) t) ≡ true) l
     every [] = none
     every (x ∷ xs) = with (says-line (rowsOf line (line (x .id .tn .0)) t) (f (line (x .id .tn .0)))) (every xs)
 
@@ -124,14 +158,19 @@ table-says line rows t h =
     record {
       few = leb-true rows 4096 (of 0);
       held = leb-true (length t) rows (of 1);
-      sound = record { rising = rising-says t (of 2); rows = rows-say t (all-true soundVersion t (of 3)); lines = lines-say line t (of 4) };
+      sound = record {
+        rising = rising-says t (of 2);
+        rows = rows-say t (all-true soundVersion t (of 3));
+        lines = λ l. lines-say line t (of 4) l .0;
+        numbers = λ l. lines-say line t (of 4) l .1;
+      };
     }
 
 pub says-table : (line : ℕ → ℕ) (rows : ℕ) (t : List Version) → SoundIn line rows t → soundTable line rows t ≡ true
 unfolding soundTable
 says-table line rows t s =
     conj-all (tableClauses line rows t)
-    (with (le-leb rows 4096 (s .few)) (with (le-leb (length t) rows (s .held)) (with (says-rising t (s .sound .rising)) (with (true-all soundVersion (say-rows t (s .sound .rows))) (with (say-lines line t (s .sound .lines)) none)))))
+    (with (le-leb rows 4096 (s .few)) (with (le-leb (length t) rows (s .held)) (with (says-rising t (s .sound .rising)) (with (true-all soundVersion (say-rows t (s .sound .rows))) (with (say-lines line t (λ l. (s .sound .lines l, s .sound .numbers l))) none)))))
 
 -- ---- a row is added only where there is a free one
 
@@ -173,6 +212,24 @@ adds-rule s free e r =
     by-test (λ (x : Result). adds (x .does) ≤ room free) (wellFormed e)
     (λ _. by-order (λ (x : Result). adds (x .does) ≤ room free) _ (λ d. adds-room _ d) (λ _. omega arith)) (λ _. omega arith)
 
+-- ---- no number twice in a line, after any answer
+
+distinct-accepted : (g : Given) → Distinct (g .rows) → Distinct (changes (accepted g .does) (g .rows))
+unfolding freshVersion
+distinct-accepted g d = by-kind (λ (x : Result). Distinct (changes (x .does) (g .rows))) g (record {
+  create = λ _. by-worked (λ (x : Result). Distinct (changes (x .does) (g .rows))) (g .event) (g .rows)
+      (λ _. distinct-add (freshVersion (g .event) (g .rows)) (g .rows) (omega arith) d)
+      (λ v _. distinct-changes (put (concurred (g .event) v) ∷ []) (g .rows) refl d);
+  answer = λ _ _ v _. distinct-changes (answers (g .most) (g .event) v (rest g) .does) (g .rows) (adds-answers g v) d;
+  manage = λ _ _ v _. distinct-changes (manages (g .books) (g .event) v (rest g) .does) (g .rows) (adds-manages g v) d;
+  unknown = d;
+})
+
+distinct-rule : (s : Setting) (free : Bool) (e : Event) (r : List Version) → Distinct r → Distinct (changes (ruleIn s free e r .does) r)
+distinct-rule s free e r d =
+    by-test (λ (x : Result). Distinct (changes (x .does) r)) (wellFormed e)
+    (λ _. by-order (λ (x : Result). Distinct (changes (x .does) r)) _ (λ _. distinct-accepted _ d) (λ _. d)) (λ _. d)
+
 -- ---- every step
 
 pub sound-rules : (lineOf : ℕ → ℕ) (s : Setting) → soundRetries (s .most) ≡ true → (e : Event) (t : List Version) → SoundIn lineOf (s .rows) t
@@ -180,7 +237,7 @@ pub sound-rules : (lineOf : ℕ → ℕ) (s : Setting) → soundRetries (s .most
 sound-rules lineOf s small e t i = record {
   few = i .few;
   held = go (ltb (length t) (s .rows)) refl;
-  sound = sound-after lineOf (ruleIn s) (local lineOf s) (s .rows) (keeps-rule lineOf s small) e t (i .sound);
+  sound = sound-after lineOf (ruleIn s) (local lineOf s) (s .rows) (keeps-rule lineOf s small) (distinct-rule s) e t (i .sound);
 }
   where
     cs : List Change

@@ -8,8 +8,8 @@ use mathlib.Core.Option.{some}
 use mathlib.Core.List.{List, [], _∷_}
 use lib.ListN.{length}
 use native.Mathlib.Omega.{arith}
-use Rattle.model.specs.Basics.{keep}
-use Rattle.model.specs.Table.{order, Change, put, add, strike, nameOf, miss, hit, change, changes, find}
+use Rattle.model.specs.Basics.{keep, All, none, with}
+use Rattle.model.specs.Table.{order, sel, Change, put, add, strike, nameOf, miss, hit, change, changes, find}
 use Rattle.model.proofs.Order.{order-self, order-eq, order-gt, order-lt, order-trans}
 use Rattle.model.specs.declared.Id.{Id}
 use Rattle.model.specs.declared.Version.{Version}
@@ -24,6 +24,13 @@ Under k (x ∷ xs) = order k (x .id) ≡ Ordering·lt
 abbrev pub Rising : List Version → Type 0
 Rising [] = Unit {0}
 Rising (x ∷ xs) = Under (x .id) xs × Rising xs
+
+-- the rows but the one of that name
+abbrev pub notNamed : Id → Id → Bool
+notNamed k j = sel (order j k) true false true
+
+abbrev pub others : Id → List Version → List Version
+others k t = keep (λ (v : Version). notNamed k (v .id)) t
 
 -- how many rows changes may add
 abbrev pub fresh : Change → ℕ
@@ -40,6 +47,10 @@ adds (c ∷ cs) = fresh c + adds cs
 pub under-tail : (k : Id) (x : Version) (xs : List Version) → Under k (x ∷ xs) → Rising (x ∷ xs) → Under k xs
 under-tail k x [] u r = tt
 under-tail k x (y ∷ ys) u r = order-trans k x.id y.id u (r .0)
+
+pub above : (k : Id) (t : List Version) → Under k t → Rising t → All (λ (x : Version). order k (x .id) ≡ Ordering·lt) t
+above k [] u r = none
+above k (x ∷ xs) u r = with u (above k xs (under-tail k x xs u r) (r .1))
 
 under-eq : (k : Id) (x : Version) (xs : List Version) → order k x.id ≡ Ordering·eq → Rising (x ∷ xs) → Under k xs
 under-eq k x xs e r = subst (λ (j : Id). Under j xs) (sym (order-eq k x.id e)) (r .0)

@@ -79,7 +79,7 @@ demand3 = reordering
 pub demand3-instance : Instance
 demand3-instance = an-instance
 
-pub demand3-there : Same (stepOf (asks12 0 256)) places inOrder waitingTable
+pub demand3-there : Same (line (asks12 0 256)) (stepOf (asks12 0 256)) places inOrder waitingTable
 demand3-there = demand3 (asks12 0 256) places inOrder waitingTable (demand3-instance .premises) (demand3-instance .may)
 
 -- P1 to P8. [H5]

@@ -19,7 +19,7 @@ use Rattle.model.specs.Refusals.{early, busyWith, busy, unawaited, notCu
 use Rattle.model.specs.Retries.{octal, withOctal, used, withUsed}
 use Rattle.model.specs.Selection.{skipped, classOf, selectedFor}
 use Rattle.model.specs.Sound.{pending, conflict, sending, failure, partialFailure, active, old, activate, disconnect, yes, no}
-use Rattle.model.specs.Sound.{retriesInRange, castInRange, inRange, newWhole, oldWhole, sidesNeeded, causeFits, apart, setsApart, retriesFit, soundVersion, oneEach, soundLines, soundTable}
+use Rattle.model.specs.Sound.{retriesInRange, castInRange, inRange, newWhole, oldWhole, sidesNeeded, causeFits, apart, setsApart, retriesFit, soundVersion, oneEach, soundLines, soundTable, noneTwice, soundLine}
 use Rattle.model.specs.Standing.{standingOf, gridRule, unready}
 use Rattle.model.specs.Exchange.{Exchangeable, answers, lines, May, reorder, Premises}
 use Rattle.model.specs.Step.{line, manages, accepted, rule, unsound, step}
@@ -319,7 +319,7 @@ pub record Instance : Type 0 where
 -- ---- the statements
 
 computed : (allPass examples ≡ true) × (passes listing ≡ true) × (allPass slips ≡ true) × (allPass dueDates ≡ true)
-unfolding accepted acknowledged again anotherDue answered apart askedAgain askedFor broadcasts busy busyWith cancelled castInRange causeFits classOf closeTo closed closingTold concurred creates currentFor early every exhausted filters fits fitsBits freshVersion full gridRule heard inRange kindFits manages members moved newModified newWhole notCurrent octal oldModified oldWhole oneEach opened order ownCancel ownerOf partnerOf resolved retired retires retriesFit retriesInRange rule selectedFor setsApart settled settles settlingTold sidesNeeded skipped soundBooks soundCodes soundFilters soundLines soundMarks soundSplits soundTable soundVersion standingOf step unawaited unfit unready unsound used wellFormed windowMarked windowRuns windowSpent windowTurned withOctal withUsed member maskOf meet size examples listing slips dueDates
+unfolding accepted acknowledged again anotherDue answered apart askedAgain askedFor broadcasts busy busyWith cancelled castInRange causeFits classOf closeTo closed closingTold concurred creates currentFor early every exhausted filters fits fitsBits freshVersion full gridRule heard inRange kindFits manages members moved newModified newWhole noneTwice notCurrent octal oldModified oldWhole oneEach opened order ownCancel ownerOf partnerOf resolved retired retires retriesFit retriesInRange rule selectedFor setsApart settled settles settlingTold sidesNeeded skipped soundBooks soundCodes soundFilters soundLine soundLines soundMarks soundSplits soundTable soundVersion standingOf step unawaited unfit unready unsound used wellFormed windowMarked windowRuns windowSpent windowTurned withOctal withUsed member maskOf meet size examples listing slips dueDates
 computed = (refl, refl, refl, refl)
 
 pub worked-examples : allPass examples ≡ true
@@ -335,11 +335,11 @@ pub dates-shown : allPass dueDates ≡ true
 dates-shown = computed .3
 
 pub an-instance : Instance
-unfolding accepted acknowledged again anotherDue answered apart askedAgain askedFor broadcasts busy busyWith cancelled castInRange causeFits classOf closeTo closed closingTold concurred creates currentFor early every exhausted filters fits fitsBits freshVersion full gridRule heard inRange kindFits manages members moved newModified newWhole notCurrent octal oldModified oldWhole oneEach opened order ownCancel ownerOf partnerOf resolved retired retires retriesFit retriesInRange rule selectedFor setsApart settled settles settlingTold sidesNeeded skipped soundBooks soundCodes soundFilters soundLines soundMarks soundSplits soundTable soundVersion standingOf step unawaited unfit unready unsound used wellFormed windowMarked windowRuns windowSpent windowTurned withOctal withUsed member maskOf meet size exchanged
+unfolding accepted acknowledged again anotherDue answered apart askedAgain askedFor broadcasts busy busyWith cancelled castInRange causeFits classOf closeTo closed closingTold concurred creates currentFor early every exhausted filters fits fitsBits freshVersion full gridRule heard inRange kindFits manages members moved newModified newWhole noneTwice notCurrent octal oldModified oldWhole oneEach opened order ownCancel ownerOf partnerOf resolved retired retires retriesFit retriesInRange rule selectedFor setsApart settled settles settlingTold sidesNeeded skipped soundBooks soundCodes soundFilters soundLine soundLines soundMarks soundSplits soundTable soundVersion standingOf step unawaited unfit unready unsound used wellFormed windowMarked windowRuns windowSpent windowTurned withOctal withUsed member maskOf meet size exchanged
 an-instance = record {
   premises = record { sound = refl; free = omega arith; formed = with refl (with refl (with refl none)) };
   may = (
-    answers (record { first = refl; second = refl; tns = refl; versions = refl; systems = λ q. absurd (omega arith) }),
+    answers (record { first = refl; second = refl; lines = refl; versions = refl; systems = λ q. absurd (omega arith) }),
     (lines (λ q. absurd (omega arith)), tt),
   );
   orders = refl;

@@ -44,33 +44,34 @@ May may (n ∷ ns) l = MayAt may n l × May may ns (swapAt n l)
 
 -- ---- which events may be exchanged
 
--- replies or silences for one version from different Local SMSs
-pub record Answers (e f : Event) : Type 0 where
+-- replies or silences for one version, by line and number, from different Local SMSs
+pub record Answers (line : ℕ → ℕ) (e f : Event) : Type 0 where
   pub first : isAnswer (e .kind) ≡ true
   pub second : isAnswer (f .kind) ≡ true
-  pub tns : e .tn .0 ≡ f .tn .0
+  pub lines : line (e .tn .0) ≡ line (f .tn .0)
   pub versions : e .version ≡ f .version
   pub systems : answering e ≡ answering f → ⊥
 
--- events that name different numbers, or such answers
+-- events that name different lines, or such answers
 pub data Exchangeable (line : ℕ → ℕ) (e f : Event) : Type 0 where
   lines : (line (e .tn .0) ≡ line (f .tn .0) → ⊥) → Exchangeable line e f
-  answers : Answers e f → Exchangeable line e f
+  answers : Answers line e f → Exchangeable line e f
 
 -- ---- what stays
 
--- what one system is sent about one number
-abbrev pub isFor : Bool → ℕ → ℕ → Message → Bool
-isFor local provider n m = iff (m .local) local && eqb (m .provider) provider && eqb (m .id .tn .0) n
+-- what one system is sent about one line
+abbrev pub isFor : (ℕ → ℕ) → Bool → ℕ → ℕ → Message → Bool
+isFor line local provider l m = iff (m .local) local && eqb (m .provider) provider && eqb (line (m .id .tn .0)) l
 
-abbrev pub mailOf : Bool → ℕ → ℕ → List Message → List Message
-mailOf local provider n ms = keep (isFor local provider n) ms
+abbrev pub mailOf : (ℕ → ℕ) → Bool → ℕ → ℕ → List Message → List Message
+mailOf line local provider l ms = keep (isFor line local provider l) ms
 
--- the same final table, the same outcome for each event, and for each system and number the same messages in the same order
-pub record Same (does : Step) (ns : List ℕ) (es : List Event) (t : List Version) : Type 0 where
+-- the same final table, the same outcome for each event, and for each system and line the same messages in the same order
+pub record Same (line : ℕ → ℕ) (does : Step) (ns : List ℕ) (es : List Event) (t : List Version) : Type 0 where
   pub tables : final does (reorder ns es) t ≡ final does es t
   pub outs : outcomes does (reorder ns es) t ≡ reorder ns (outcomes does es t)
-  pub mail : (local : Bool) (p n : ℕ) → mailOf local p n (messages does (reorder ns es) t) ≡ mailOf local p n (messages does es t)
+  pub mail : (local : Bool) (p l : ℕ)
+      → mailOf line local p l (messages does (reorder ns es) t) ≡ mailOf line local p l (messages does es t)
 
 -- A sound table with as many free rows as events, well-formed events, fixed sound books, a tray of 64, R of 0 to 7.
 pub record Premises (s : Setting) (es : List Event) (t : List Version) : Type 0 where
@@ -81,4 +82,4 @@ pub record Premises (s : Setting) (es : List Event) (t : List Version) : Type 0 
 abbrev pub Demand3 : Type 0
 Demand3 =
     (s : Setting) (ns : List ℕ) (es : List Event) (t : List Version) → Premises s es t → May (Exchangeable (line s)) ns es
-    → Same (stepOf s) ns es t
+    → Same (line s) (stepOf s) ns es t

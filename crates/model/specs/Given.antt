@@ -2,14 +2,15 @@
 -- Word endings, in all rules: modified is the version after, modifies what the rule answers or changes, ..Told the messages.
 -- Assumes nothing.
 use Prim.Native.Nat.{ℕ}
-use mathlib.Core.Bool.{Bool, cond}
+use mathlib.Core.Bool.{Bool, cond, not}
 use mathlib.Core.Option.{Option}
 use mathlib.Core.List.{List, []}
-use Rattle.model.specs.Basics.{first, largest}
+use lib.Dec.{eqb}
+use Rattle.model.specs.Basics.{first, keep, largest}
 use Rattle.model.specs.Books.{Books}
-use Rattle.model.specs.Table.{Change, find, others}
+use Rattle.model.specs.Table.{Change}
 use Rattle.model.specs.Outcomes.{isDone}
-use Rattle.model.specs.Sound.{live, worked}
+use Rattle.model.specs.Sound.{numbered, live, worked}
 use Rattle.model.specs.declared.Id.{Id}
 use Rattle.model.specs.declared.Event.{Event}
 use Rattle.model.specs.declared.Version.{Version}
@@ -17,7 +18,7 @@ use Rattle.model.specs.declared.Message.{Message}
 use Rattle.model.specs.declared.Outcome.{Outcome}
 use Rattle.model.specs.declared.Outcome.the-variants.{Done}
 
--- the books, R, whether there is a free row, the event, and the rows of its number
+-- the books, R, whether there is a free row, the event, and the rows of its line
 pub record Given : Type 0 where
   pub books : Books
   pub most : ℕ
@@ -25,17 +26,23 @@ pub record Given : Type 0 where
   pub event : Event
   pub rows : List Version
 
--- the name that an event says
-abbrev pub nameIn : Event → Id
-nameIn e = record { tn = e .tn; number = e .version }
+-- of the rows of a line the version of that number, and the others
+abbrev pub withNumber : ℕ → List Version → Option Version
+withNumber n r = first (numbered n) r
 
--- that TN and version, if it is in the table
+abbrev pub otherThan : ℕ → Id → Bool
+otherThan n k = not (eqb (k .number) n)
+
+abbrev pub besides : ℕ → List Version → List Version
+besides n r = keep (λ (v : Version). otherThan n (v .id)) r
+
+-- the version that the event names, by line and number, if it is in the table
 abbrev pub found : Given → Option Version
-found g = find (nameIn (g .event)) (g .rows)
+found g = withNumber (g .event .version) (g .rows)
 
--- the other versions of the number
+-- the other versions of the line
 abbrev pub rest : Given → List Version
-rest g = others (nameIn (g .event)) (g .rows)
+rest g = besides (g .event .version) (g .rows)
 
 abbrev pub newest : List Version → ℕ
 newest r = largest (λ (v : Version). v .id .number) r

@@ -1,4 +1,4 @@
--- The version table, second part: when a version, the rows of a number and a table are sound.
+-- The version table, second part: when a version, the rows of a line and a table are sound.
 -- Assumes nothing.
 use Prim.Native.Nat.{ℕ, _^_}
 use mathlib.Core.Bool.{Bool, true, false, cond, not, _&&_, _||_}
@@ -161,7 +161,7 @@ soundVersion v =
     && cancellerFits v && setsApart (v .cast) && retriesFit (v .cast) && startFits v && waitingFits v && purposeFits v && liveFits v
     && liveConfirmed v
 
--- ---- the rows of one number
+-- ---- the rows of one line
 
 abbrev pub count : (Version → Bool) → List Version → ℕ
 count p r = length (keep p r)
@@ -202,9 +202,9 @@ abbrev pub rising : List Version → Bool
 rising [] = true
 rising (x ∷ xs) = above (x .id) xs
 
--- of each number that the table names, the rows may stand together
+-- of each line that the table names, the rows may stand together
 unfoldable pub soundLines : (ℕ → ℕ) → List Version → Bool
-soundLines line t = all (λ (v : Version). oneEach (rowsOf line (line (v .id .tn .0)) t)) t
+soundLines line t = all (λ (v : Version). soundLine (rowsOf line (line (v .id .tn .0)) t)) t
 
 -- A table of so many rows, at most 4,096, of which these are used. [T1]
 unfoldable pub soundTable : (ℕ → ℕ) → ℕ → List Version → Bool

@@ -1,7 +1,7 @@
 -- The version table: a list of versions, strictly rising by TN and then version number; what an event may change in it. [T2]
 -- Assumes nothing.
 use Prim.Native.Nat.{ℕ, compare, Ordering, Ordering·lt, Ordering·eq, Ordering·gt}
-use mathlib.Core.Bool.{Bool, true, false}
+use mathlib.Core.Bool.{Bool}
 use mathlib.Core.Option.{Option, none, some}
 use mathlib.Core.List.{List, [], _∷_}
 use lib.Dec.{eqb}
@@ -24,7 +24,7 @@ sel Ordering·lt a b c = a
 sel Ordering·eq a b c = b
 sel Ordering·gt a b c = c
 
--- ---- the rows of one number, and the version of a name
+-- ---- the rows of one line, and the version of a name
 
 abbrev pub inLine : (ℕ → ℕ) → ℕ → Id → Bool
 inLine line l k = eqb (line (k .tn .0)) l
@@ -35,13 +35,6 @@ rowsOf line l t = keep (λ (v : Version). inLine line l (v .id)) t
 abbrev pub find : Id → List Version → Option Version
 find k [] = none
 find k (x ∷ xs) = sel (order k (x .id)) none (some x) (find k xs)
-
--- the rows but the one of that name
-abbrev pub notNamed : Id → Id → Bool
-notNamed k j = sel (order j k) true false true
-
-abbrev pub others : Id → List Version → List Version
-others k t = keep (λ (v : Version). notNamed k (v .id)) t
 
 -- ---- changes
 
