@@ -8,12 +8,12 @@ use mathlib.Core.Option.{none as nothing, some}
 use lib.Dec.{eqb}
 use lib.ListN.{length}
 use native.Mathlib.Omega.{arith}
-use borrow.Author.Tests.{eqb-true}
+use borrow.Author.Tests.{eqb-true, ne-eqb}
 use Rattle.model.specs.Basics.{keep, first, any, All, none, with}
 use Rattle.model.specs.Table.{order, Change, put, add, strike, change, changes, find}
 use Rattle.model.specs.Sound.{count, numbered, live, sends, worked}
 use Rattle.model.specs.Closing.{retired}
-use Rattle.model.proofs.Lists.{clash, all-keep, all-both, all-first, head-of, passed}
+use Rattle.model.proofs.Lists.{clash, keep-none, all-keep, all-both, all-first, head-of, passed}
 use Rattle.model.proofs.Order.{order-self, order-eq, order-gt, order-lt}
 use Rattle.model.proofs.TableLaws.{Under, Rising, fresh, adds, notNamed, others, under-tail, above, find-put, find-other, part-out, rising-change}
 use Rattle.model.proofs.Numbered.{with-above}
@@ -217,6 +217,31 @@ besides-others n (x ∷ xs) v s d q = go (numbered n x) refl (besides-others n x
         let a : withNumber n xs ≡ some v = rw e at q in
         let up : order (x .id) (v .id) ≡ Ordering·lt = with-above n x xs v s a in
         rw (e, up) (ap (λ (l : List Version). x ∷ l) (ih (omega (arith, count-cons (numbered n) x xs)) a))
+
+-- rows of one TN that rise have no number twice
+pub distinct-rising : (n : ℕ) (r : List Version) → Rising r → All (λ (v : Version). v .id .tn .0 ≡ n) r → Distinct r
+distinct-rising n r s a = record { once = λ m. go m r s a }
+  where
+    go : (m : ℕ) (r : List Version) → Rising r → All (λ (v : Version). v .id .tn .0 ≡ n) r → count (numbered m) r ≤ 1
+    go m [] s none = omega arith
+    go m (x ∷ xs) s (with h hs) = at (numbered m x) refl (go m xs (s .1) hs)
+      where
+        differs : eqb (x .id .number) m ≡ true → (y : Version) → order (x .id) (y .id) ≡ Ordering·lt → y .id .tn .0 ≡ n → numbered m y ≡ false
+        differs e y up q =
+            ne-eqb (y .id .number) m
+            (λ z. absurd (let j : x .id ≡ y .id = λ i. record { tn = record { 0 = (h ∙ sym q) i }; number = (eqb-true (x .id .number) m e ∙ sym z) i } in
+            let w : Ordering·eq ≡ Ordering·lt = sym (order-self (x .id)) ∙ ap (order (x .id)) j ∙ up in
+            let v : _≡_ {A = ℕ} 0 1 = cc in omega arith))
+
+        at : (b : Bool) → numbered m x ≡ b → count (numbered m) xs ≤ 1 → count (numbered m) (x ∷ xs) ≤ 1
+        at true e ih =
+            omega (
+              arith,
+              count-cons (numbered m) x xs,
+              ap one e,
+              ap length (keep-none (numbered m) (λ (y : Version). numbered m y ≡ false) xs (all-both (differs e) (above (x .id) xs (s .0) (s .1)) hs) (λ y q. q)),
+            )
+        at false e ih = omega (arith, count-cons (numbered m) x xs, ap one e)
 
 -- ---- no number twice: what changes leave of it
 

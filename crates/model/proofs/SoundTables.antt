@@ -89,7 +89,7 @@ twice-says r h = record { once = λ n. go n (withNumber n r) refl }
         (leb-true (count (numbered (v .id .number)) r) 1
         (all-first (numbered n) v (all-true (λ (x : Version). leb (count (numbered (x .id .number)) r) 1) r h) q))
 
-says-twice : (r : List Version) → Distinct r → noneTwice r ≡ true
+pub says-twice : (r : List Version) → Distinct r → noneTwice r ≡ true
 unfolding noneTwice
 says-twice r d = true-all (λ (x : Version). leb (count (numbered (x .id .number)) r) 1) (every r)
   where

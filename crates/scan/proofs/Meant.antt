@@ -10,12 +10,16 @@ use lib.Dec.{eqb, ltb, leb}
 use lib.ListN.{length, getD}
 use Rattle.octets.specs.Octets.{Bytes}
 use Rattle.model.specs.declared.Version.{Version}
-use Rattle.model.specs.Table.{rowsOf}
-use Rattle.model.specs.Sound.{count, live, sends, worked, oneEach, rising, soundVersion, soundLines, soundTable}
+use Rattle.model.specs.Table.{inLine, rowsOf}
+use Rattle.model.specs.Sound.{count, live, sends, worked, oneEach, noneTwice, soundLine, rising, soundVersion, soundLines, soundTable}
 use Rattle.words.specs.Size.{ROW}
 use Rattle.row.specs.Layout.{keyOf}
 use Rattle.model.specs.Basics.{all, none, with}
 use Rattle.model.proofs.Lists.{and-l, and-r, both-true, conj-at, conj-all}
+use Rattle.model.proofs.TableLaws.{rising-part}
+use Rattle.model.proofs.Apart.{rows-rows}
+use Rattle.model.proofs.SoundLines.{distinct-rising}
+use Rattle.model.proofs.SoundTables.{rising-says, says-twice}
 use Rattle.scan.specs.declared.join.Group.{Group}
 use Rattle.scan.specs.declared.Scan.{Scan}
 use Rattle.scan.specs.declared.Scan.the-variants.{Bad, Open, Ended}
@@ -80,24 +84,29 @@ parts-chain (v ∷ vs) g a p =
 
 -- of each number that a list names, the rows of t may stand together: the three tests apart
 abbrev eachIn : List Version → Version → Bool
-eachIn t v = oneEach (rowsOf itself (v .id .tn .0) t)
+eachIn t v = soundLine (rowsOf itself (v .id .tn .0) t)
+
+-- no number stands twice among the rows of one TN, since they rise
+none-twice : (t : List Version) → rising t ≡ true → (n : ℕ) → noneTwice (rowsOf itself n t) ≡ true
+none-twice t h n =
+    says-twice (rowsOf itself n t) (distinct-rising n (rowsOf itself n t) (rising-part (inLine itself n) t (rising-says t h)) (rows-rows itself n t))
 
 split-each : (t vs : List Version) → all (eachIn t) vs ≡ true → (all (oneOf live t) vs ≡ true) × ((all (oneOf sends t) vs ≡ true) × (all (oneOf worked t) vs ≡ true))
-unfolding oneEach
+unfolding soundLine oneEach
 split-each t [] h = (refl, (refl, refl))
 split-each t (v ∷ vs) h =
     let three : List Bool = oneOf live t v ∷ oneOf sends t v ∷ oneOf worked t v ∷ [] in
-    let of : (i : ℕ) → getD three i true ≡ true = conj-at three (and-l (eachIn t v) (all (eachIn t) vs) h) in
+    let of : (i : ℕ) → getD three i true ≡ true = conj-at three (and-l _ (noneTwice (rowsOf itself (v .id .tn .0) t)) (and-l (eachIn t v) (all (eachIn t) vs) h)) in
     let r = split-each t vs (and-r (eachIn t v) (all (eachIn t) vs) h) in
     (both-true _ _ (of 0) (r .0), (both-true _ _ (of 1) (r .1 .0), both-true _ _ (of 2) (r .1 .1)))
 
-join-each : (t vs : List Version) → all (oneOf live t) vs ≡ true → all (oneOf sends t) vs ≡ true → all (oneOf worked t) vs ≡ true → all (eachIn t) vs ≡ true
-unfolding oneEach
-join-each t [] l s w = refl
-join-each t (v ∷ vs) l s w =
+join-each : (t vs : List Version) → rising t ≡ true → all (oneOf live t) vs ≡ true → all (oneOf sends t) vs ≡ true → all (oneOf worked t) vs ≡ true → all (eachIn t) vs ≡ true
+unfolding soundLine oneEach
+join-each t [] up l s w = refl
+join-each t (v ∷ vs) up l s w =
     rw
-    (and-l (oneOf live t v) (all (oneOf live t) vs) l, and-l (oneOf sends t v) (all (oneOf sends t) vs) s, and-l (oneOf worked t v) (all (oneOf worked t) vs) w)
-    (join-each t vs (and-r (oneOf live t v) (all (oneOf live t) vs) l) (and-r (oneOf sends t v) (all (oneOf sends t) vs) s) (and-r (oneOf worked t v) (all (oneOf worked t) vs) w))
+    (and-l (oneOf live t v) (all (oneOf live t) vs) l, and-l (oneOf sends t v) (all (oneOf sends t) vs) s, and-l (oneOf worked t v) (all (oneOf worked t) vs) w, none-twice t up (v .id .tn .0))
+    (join-each t vs up (and-r (oneOf live t v) (all (oneOf live t) vs) l) (and-r (oneOf sends t v) (all (oneOf sends t) vs) s) (and-r (oneOf worked t v) (all (oneOf worked t) vs) w))
 
 pub record Good (rows : ℕ) (t : List Version) : Type 0 where
   pub few : rows ≤ ROWS
@@ -131,7 +140,7 @@ pub good-table : (rows : ℕ) (t : List Version) → Good rows t → soundTable 
 unfolding soundTable soundLines
 good-table rows t g =
     conj-all (tests rows t)
-    (with (le-leb _ _ (g .few)) (with (le-leb _ _ (g .room)) (with (rises-rising t (g .sound) (g .rises)) (with (sound-all t (g .sound)) (with (join-each t t (one-each live t (g .lives) t) (one-each sends t (g .sent) t) (one-each worked t (g .work) t)) none)))))
+    (with (le-leb _ _ (g .few)) (with (le-leb _ _ (g .room)) (with (rises-rising t (g .sound) (g .rises)) (with (sound-all t (g .sound)) (with (join-each t t (rises-rising t (g .sound) (g .rises)) (one-each live t (g .lives) t) (one-each sends t (g .sent) t) (one-each worked t (g .work) t)) none)))))
 
 pub good-chain : (rows : ℕ) (t : List Version) → Good rows t → Chain start t
 good-chain rows t g =
