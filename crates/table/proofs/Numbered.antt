@@ -1,25 +1,20 @@
--- The versions of one number stand together; finding a name among them, and the others. Assumes nothing.
+-- The versions of one TN stand together, and those of a line one name after the other. Assumes nothing.
 use mathlib.Core.Path.{_≡_, refl, sym, ap, _∙_}
-use mathlib.Core.Bool.{Bool, true, false, cond, not, false≢true}
-use mathlib.Core.Option.{none, some}
-use mathlib.Core.List.{List, [], _∷_}
-use Prim.Native.Nat.{ℕ, _+_, _*_, _/_, _≤_, _<_, Ordering, Ordering·lt, Ordering·eq, Ordering·gt}
+use mathlib.Core.Bool.{Bool, true, false, cond, _||_}
+use mathlib.Core.List.{List, [], _∷_, _++_, append-nil}
+use Prim.Native.Nat.{ℕ, _+_, _*_, _/_, _≤_, _<_}
 use native.Mathlib.Nat.{ne-of-gt, ne-of-lt}
 use native.Mathlib.Omega.{arith}
 use borrow.Author.Tests.{eq-eqb, ne-eqb, le-ltb, eqb-true, ltb-true, ltb-false}
 use lib.Dec.{eqb, ltb}
 use lib.Seq.{slice}
-use Rattle.model.specs.declared.Id.{Id}
 use Rattle.model.specs.declared.Version.{Version}
-use Rattle.model.specs.Basics.{keep, first}
-use Rattle.model.specs.Table.{order, sel, inLine, rowsOf, find, notNamed, others}
-use Rattle.model.proofs.Order.{order-self, order-eq}
-use Rattle.model.proofs.TableLaws.{Under, Rising, under-tail, rising-part}
+use Rattle.model.specs.Table.{rowsOf}
+use Rattle.model.proofs.TableLaws.{Rising}
 use Rattle.row.specs.Layout.{keyOf}
-use Rattle.model.proofs.Lists.{and-l, and-r}
 use Rattle.table.specs.Find.{past, lowerOf, keyFor, keys, placeIn}
 use Rattle.scan.specs.Sound.{itself}
-use Rattle.table.specs.Survey.{named}
+use Rattle.table.specs.Survey.{rowsBeyond, rowsUnder}
 use Rattle.rows.proofs.Sounds.{AllSound, RisingFrom, number-lt, key-lower}
 
 -- ---- the rows between two places
@@ -90,66 +85,49 @@ place-up (v ∷ vs) j k h = go (ltb (keyFor v) j) (ltb (keyFor v) k) refl refl (
         absurd (omega arith)
     go false b p q i = omega arith
 
--- ---- names
-
-pub named-is : (k : Id) (v : Version) → named k v ≡ true → v .id ≡ k
-named-is k v e =
-    let a = and-l (eqb (v .id .tn .0) (k .tn .0)) (eqb (v .id .number) (k .number)) e in
-    let b = and-r (eqb (v .id .tn .0) (k .tn .0)) (eqb (v .id .number) (k .number)) e in
-    λ i. record { tn = record { 0 = eqb-true (v .id .tn .0) (k .tn .0) a i }; number = eqb-true (v .id .number) (k .number) b i }
-
-is-named : (k : Id) (v : Version) → v .id ≡ k → named k v ≡ true
-is-named k v e =
-    let a : v .id .tn .0 ≡ k .tn .0 = ap (λ (j : Id). j .tn .0) e in
-    let b : v .id .number ≡ k .number = ap (λ (j : Id). j .number) e in
-    rw (eq-eqb _ _ a, eq-eqb _ _ b)
-
-unnamed : (k : Id) (v : Version) (o : Ordering) → order k (v .id) ≡ o → (o ≡ Ordering·eq → ⊥) → named k v ≡ false
-unnamed k v o e n = go (named k v) refl
+-- the rows under two TNs: the smaller one's, then the larger one's
+pub rows-two : (m n k : ℕ) (vs : List Version) → m < n → AllSound vs → RisingFrom k vs
+    → rowsOf itself m vs ++ rowsOf itself n vs ≡ rowsUnder m n vs
+rows-two m n k [] h a r = refl
+rows-two m n k (v ∷ vs) h a r = go (eqb (v .id .tn .0) m) refl (eqb (v .id .tn .0) n) refl (rows-two m n (keyOf (v .id)) vs h (a .1) (r .1))
   where
-    go : (b : Bool) → named k v ≡ b → b ≡ false
-    go true q = absurd (n (sym e ∙ ap (order k) (named-is k v q) ∙ order-self k))
-    go false q = refl
+    A : List Version
+    A = rowsOf itself m vs
 
-lt-eq : Ordering·lt ≡ Ordering·eq → ⊥
-lt-eq e = let z : _≡_ {A = ℕ} 0 1 = cc in omega arith
+    B : List Version
+    B = rowsOf itself n vs
 
-gt-eq : Ordering·gt ≡ Ordering·eq → ⊥
-gt-eq e = let z : _≡_ {A = ℕ} 0 1 = cc in omega arith
+    go : (x : Bool) → eqb (v .id .tn .0) m ≡ x → (y : Bool) → eqb (v .id .tn .0) n ≡ y → A ++ B ≡ rowsUnder m n vs
+        → cond x (v ∷ A) A ++ cond y (v ∷ B) B ≡ cond (x || y) (v ∷ rowsUnder m n vs) (rowsUnder m n vs)
+    go true p true q ih = absurd (omega (arith, eqb-true (v .id .tn .0) m p, eqb-true (v .id .tn .0) n q, h))
+    go true p false q ih = ap (λ (l : List Version). v ∷ l) ih
+    go false p true q ih =
+        let b : v .id .number < 65536 = number-lt v (a .0) in
+        let e : v .id .tn .0 ≡ n = eqb-true _ _ q in
+        let none : A ≡ [] = rows-none m (keyOf (v .id)) vs (a .1) (r .1) (omega arith) in
+        ap (λ (l : List Version). l ++ (v ∷ B)) none ∙ ap (λ (l : List Version). v ∷ l) (ap (λ (l : List Version). l ++ B) (sym none) ∙ ih)
+    go false p false q ih = ih
 
-pub not-named : (k : Id) (v : Version) → notNamed k (v .id) ≡ not (named k v)
-not-named k v = go (named k v) refl
+-- a line of one name
+pub rows-one : (n : ℕ) (vs : List Version) → rowsOf itself n vs ≡ rowsUnder n n vs
+rows-one n [] = refl
+rows-one n (v ∷ vs) = go (eqb (v .id .tn .0) n) (rows-one n vs)
   where
-    other : (o : Ordering) → order (v .id) k ≡ o → named k v ≡ false → sel o true false true ≡ true
-    other Ordering·lt e q = refl
-    other Ordering·eq e q = absurd (false≢true (sym q ∙ is-named k v (order-eq (v .id) k e)))
-    other Ordering·gt e q = refl
+    go : (b : Bool) → rowsOf itself n vs ≡ rowsUnder n n vs
+        → cond b (v ∷ rowsOf itself n vs) (rowsOf itself n vs) ≡ cond (b || b) (v ∷ rowsUnder n n vs) (rowsUnder n n vs)
+    go true ih = ap (λ (l : List Version). v ∷ l) ih
+    go false ih = ih
 
-    go : (b : Bool) → named k v ≡ b → notNamed k (v .id) ≡ not b
-    go true q = ap (λ (o : Ordering). sel o true false true) (ap (λ (j : Id). order j k) (named-is k v q) ∙ order-self k)
-    go false q = other (order (v .id) k) refl q
-
-keep-same : (p q : Version → Bool) (l : List Version) → ((v : Version) → p v ≡ q v) → keep p l ≡ keep q l
-keep-same p q [] h = refl
-keep-same p q (v ∷ vs) h = rw (h v, keep-same p q vs h)
-
-pub others-kept : (k : Id) (l : List Version) → others k l ≡ keep (λ v. not (named k v)) l
-others-kept k l = keep-same (λ v. notNamed k (v .id)) (λ v. not (named k v)) l (not-named k)
-
--- ---- what is found is the first of that name
-
-under-none : (k : Id) (l : List Version) → Under k l → Rising l → first (named k) l ≡ none
-under-none k [] u r = refl
-under-none k (x ∷ xs) u r = rw (unnamed k x Ordering·lt u lt-eq) (under-none k xs (under-tail k x xs u r) (r .1))
-
-pub find-first : (k : Id) (l : List Version) → Rising l → find k l ≡ first (named k) l
-find-first k [] r = refl
-find-first k (x ∷ xs) r = go (order k (x .id)) refl (find-first k xs (r .1))
+-- a line of one name or two
+pub rows-line : (m n k : ℕ) (vs : List Version) → m ≤ n → AllSound vs → RisingFrom k vs
+    → rowsOf itself m vs ++ rowsBeyond m n vs ≡ rowsUnder m n vs
+rows-line m n k vs h a r = go (ltb m n) refl
   where
-    go : (o : Ordering) → order k (x .id) ≡ o → find k xs ≡ first (named k) xs → sel o none (some x) (find k xs) ≡ first (named k) (x ∷ xs)
-    go Ordering·lt e ih = sym (under-none k (x ∷ xs) e r)
-    go Ordering·eq e ih = sym (ap (λ (b : Bool). cond b (some x) (first (named k) xs)) (is-named k x (sym (order-eq k (x .id) e))))
-    go Ordering·gt e ih = ih ∙ sym (ap (λ (b : Bool). cond b (some x) (first (named k) xs)) (unnamed k x Ordering·gt e gt-eq))
+    go : (b : Bool) → ltb m n ≡ b → rowsOf itself m vs ++ cond b (rowsOf itself n vs) [] ≡ rowsUnder m n vs
+    go true q = rows-two m n k vs (ltb-true m n q) a r
+    go false q =
+        let e : m ≡ n = omega (arith, h, ltb-false m n q) in
+        append-nil (rowsOf itself m vs) ∙ rows-one m vs ∙ ap (λ (j : ℕ). rowsUnder m j vs) e
 
 -- a list whose keys rise is strictly rising by name
 pub rises-type : (vs : List Version) (k : ℕ) → AllSound vs → RisingFrom k vs → Rising vs
@@ -157,6 +135,3 @@ rises-type [] k a r = tt
 rises-type (v ∷ []) k a r = (tt, tt)
 rises-type (v ∷ (w ∷ ws)) k a r =
     (key-lower (v .id) (w .id) (number-lt v (a .0)) (number-lt w (a .1 .0)) (r .1 .0), rises-type (w ∷ ws) (keyOf (v .id)) (a .1) (r .1))
-
-pub rising-rows : (n : ℕ) (vs : List Version) (k : ℕ) → AllSound vs → RisingFrom k vs → Rising (rowsOf itself n vs)
-rising-rows n vs k a r = rising-part (λ (j : Id). inLine itself n j) vs (rises-type vs k a r)

@@ -1,4 +1,4 @@
--- Any two answers that `survey::number` may give of one table and one name are equal. [H2]
+-- Any two answers that `survey::line` may give of one table and one number are equal. [H2]
 -- Assumes nothing.
 use mathlib.Core.Path.{_≡_, refl, sym, ap, _∙_}
 use mathlib.Core.Bool.{Bool, true, false}
@@ -9,7 +9,6 @@ use native.Mathlib.Omega.{arith}
 use borrow.Author.Tests.{ltb-true, ltb-false}
 use lib.Dec.{ltb}
 use lib.ListN.{length}
-use Rattle.model.specs.declared.Id.{Id}
 use Rattle.model.specs.declared.Version.{Version}
 use Rattle.model.specs.Sound.{soundTable}
 use Rattle.model.proofs.Lists.{nothing-some}
@@ -47,7 +46,7 @@ found-one t r (One i v) (One j w) o f g =
     let p : i ≡ j = one-place t r i j (f .stands .0) (g .stands .0) (f .stands .1 ∙ e ∙ sym (g .stands .1)) in
     λ x. One (p x) (e x)
 
-pub surveyed-one : (rows : ℕ) (t : List Version) → soundTable itself rows t ≡ true → (r : List Version) (k : Id) (create : Bool) (f g : Facts)
+pub surveyed-one : (rows : ℕ) (t : List Version) → soundTable itself rows t ≡ true → (r : List Version) (k : ℕ) (create : Bool) (f g : Facts)
     → Surveyed t r k create f → Surveyed t r k create g → f ≡ g
 surveyed-one rows t s r k create f g a b =
     let up : RisingFrom 0 t = table-good rows t s .rises in

@@ -1,16 +1,18 @@
-// What the versions of one number have together: one pass over their rows, from the last to the first.
+// What the versions of one line have together: one pass over their rows, from the last to the first.
 use crate::find;
-use model::Id;
+use model::Tn;
 use model::Version;
 use scan::join;
 ghost use mathlib.Core.Path.{_≡_};
 ghost use mathlib.Core.Bool.{cond};
-ghost use Prim.Native.Nat.{_+_, _*_, _≤_, _<_, max};
+ghost use mathlib.Core.List.{List, []};
+ghost use Prim.Native.Nat.{ℕ, _+_, _*_, _≤_, _<_, max};
 ghost use lib.Seq.{slice};
 ghost use Rattle.model.specs.Table.{rowsOf};
 ghost use Rattle.rows.specs.Table.{decode};
 ghost use Rattle.scan.specs.Sound.{SoundTable, itself};
-ghost use Rattle.table.specs.Survey.{seenAt, Surveyed};
+ghost use Rattle.model.specs.declared.Version.{Version};
+ghost use Rattle.table.specs.Survey.{seenAt, factsAt, Summed, Adds, rowsBeyond, rowsUnder, Surveyed};
 
 // A version, with its place.
 pub enum Seen {
@@ -18,7 +20,7 @@ pub enum Seen {
     One(usize, Version),
 }
 
-// Of the versions of a number: the newest number, the largest stamp, whether one is sending. For a create the live one and the worked one. For
+// Of the versions of a line: the newest number, the largest stamp, whether one is sending. For a create the live one and the worked one. For
 // any other kind the one that is asked for, and of those but this one whether one is sending, which blocks a broadcast, and the live one, which
 // the asked one makes a former.
 pub struct Facts {
@@ -51,37 +53,64 @@ fn first(passes: bool, i: usize, p: usize) -> usize
     if passes { i } else { p }
 }
 
-// The version at a place, or nobody at `to`, the place behind all.
-fn look(t: &[u8], n: usize, to: usize, i: usize) -> Seen
+// The version at a place, or nobody where the place is none of the n used ones.
+fn look(t: &[u8], n: usize, i: usize) -> Seen
     requires { ⌜ SoundTable (now t) n ⌝ }
-    requires { ⌜ ((i ≡ to → ⊥) → i < n) ⌝ }
-    ensures { λ r. ⌜ r ≡ seenAt (decode (now (t .entry))) to i ⌝ }
+    ensures { λ r. ⌜ r ≡ seenAt (decode (now (t .entry))) n i ⌝ }
 {
-    if i == to {
-        return Seen::Nobody;
+    if i < n {
+        return Seen::One(i, rows::load(t, i));
     }
-    Seen::One(i, rows::load(t, i))
+    Seen::Nobody
 }
 
-// The versions from `from` up to, not including, `to`: of each what the sums ask, and whole those that the kind asks for.
-fn over(t: &[u8], n: usize, k: Id, create: bool, from: usize, to: usize) -> Facts
+// The facts of the versions seen so far, each version by its place; n where there is none.
+struct Pass {
+    newest: u16,
+    stamp: u32,
+    sends: bool,
+    blocked: bool,
+    former: usize,
+    live: usize,
+    worked: usize,
+    asked: usize,
+}
+
+// No version seen.
+fn none(n: usize) -> Pass
+    ensures { λ r. ⌜ ((vs : List Version) (k : ℕ) → Summed vs [] k (factsAt vs n r)) ⌝ }
+{
+    Pass {
+        newest: 0,
+        stamp: 0,
+        sends: false,
+        blocked: false,
+        former: n,
+        live: n,
+        worked: n,
+        asked: n,
+    }
+}
+
+// The versions from `from` up to, not including, `to`, before those of p: of each what the sums ask.
+fn over(t: &[u8], n: usize, number: u16, from: usize, to: usize, p: Pass) -> Pass
     requires { ⌜ SoundTable (now t) n ⌝ }
     requires { ⌜ (from ≤ to) × (to ≤ n) ⌝ }
-    ensures { λ r. ⌜ Surveyed (decode (now (t .entry))) (slice from to (decode (now (t .entry)))) k create r ⌝ }
+    ensures { λ r. ⌜ Adds (decode (now (t .entry))) n number (slice from to (decode (now (t .entry)))) p r ⌝ }
 {
-    let mut newest: u16 = 0;
-    let mut stamp: u32 = 0;
-    let mut sends = false;
-    let mut blocked = false;
-    let mut former = to;
-    let mut live = to;
-    let mut worked = to;
-    let mut asked = to;
+    let mut newest = p.newest;
+    let mut stamp = p.stamp;
+    let mut sends = p.sends;
+    let mut blocked = p.blocked;
+    let mut former = p.former;
+    let mut live = p.live;
+    let mut worked = p.worked;
+    let mut asked = p.asked;
     let mut i = to;
     while from < i {
         i -= 1;
         let v = rows::load(t, i);
-        let own = (v.id.tn.0 == k.tn.0) & (v.id.number == k.number);
+        let own = v.id.number == number;
         let other = !own;
         newest = larger16(v.id.number, newest);
         stamp = larger32(v.stamp, stamp);
@@ -92,37 +121,78 @@ fn over(t: &[u8], n: usize, k: Id, create: bool, from: usize, to: usize) -> Fact
         worked = first(join::is_worked(v.status), i, worked);
         asked = first(own, i, asked);
     }
-    if create {
-        return Facts {
-            newest,
-            stamp,
-            sends,
-            blocked,
-            former: Seen::Nobody,
-            live: look(t, n, to, live),
-            worked: look(t, n, to, worked),
-            asked: Seen::Nobody,
-        };
-    }
-    Facts {
+    Pass {
         newest,
         stamp,
         sends,
         blocked,
-        former: look(t, n, to, former),
-        live: Seen::Nobody,
-        worked: Seen::Nobody,
-        asked: look(t, n, to, asked),
+        former,
+        live,
+        worked,
+        asked,
     }
 }
 
-// What the versions of k's number have together, with the version of that name and the others, as a create or any other kind asks.
-pub fn number(t: &[u8], n: usize, k: Id, create: bool) -> Facts
+// The versions of one TN, before those of p.
+fn under(t: &[u8], n: usize, tn: Tn, number: u16, p: Pass) -> Pass
     requires { ⌜ SoundTable (now t) n ⌝ }
-    requires { ⌜ k .tn .0 < 17179869184 ⌝ }
-    ensures { λ r. ⌜ Surveyed (decode (now (t .entry))) (rowsOf itself (k .tn .0) (decode (now (t .entry)))) k create r ⌝ }
+    requires { ⌜ tn .0 < 17179869184 ⌝ }
+    ensures { λ r. ⌜ Adds (decode (now (t .entry))) n number (rowsOf itself (tn .0) (decode (now (t .entry)))) p r ⌝ }
 {
-    let tn = k.tn;
     let at = find::versions(t, n, tn);
-    over(t, n, k, create, at.from, at.to)
+    over(t, n, number, at.from, at.to, p)
+}
+
+// Whole those versions that the kind asks for.
+fn whole(t: &[u8], n: usize, create: bool, p: Pass) -> Facts
+    requires { ⌜ SoundTable (now t) n ⌝ }
+    ensures { λ r. ⌜ ((rs : List Version) (k : ℕ) → Summed (decode (now (t .entry))) rs k (factsAt (decode (now (t .entry))) n p) → Surveyed (decode (now (t .entry))) rs k create r) ⌝ }
+{
+    if create {
+        return Facts {
+            newest: p.newest,
+            stamp: p.stamp,
+            sends: p.sends,
+            blocked: p.blocked,
+            former: Seen::Nobody,
+            live: look(t, n, p.live),
+            worked: look(t, n, p.worked),
+            asked: Seen::Nobody,
+        };
+    }
+    Facts {
+        newest: p.newest,
+        stamp: p.stamp,
+        sends: p.sends,
+        blocked: p.blocked,
+        former: look(t, n, p.former),
+        live: Seen::Nobody,
+        worked: Seen::Nobody,
+        asked: look(t, n, p.asked),
+    }
+}
+
+// The versions of the larger TN of a line that has two names; of a line of one name none.
+fn beyond(t: &[u8], n: usize, low: Tn, high: Tn, number: u16) -> Pass
+    requires { ⌜ SoundTable (now t) n ⌝ }
+    requires { ⌜ high .0 < 17179869184 ⌝ }
+    ensures { λ r. ⌜ Summed (decode (now (t .entry))) (rowsBeyond (low .0) (high .0) (decode (now (t .entry)))) number (factsAt (decode (now (t .entry))) n r) ⌝ }
+{
+    let p = none(n);
+    if low.0 < high.0 {
+        return under(t, n, high, number, p);
+    }
+    p
+}
+
+// What the versions of a line have together, with the version of that number and the others, as a create or any other kind asks. Its names are
+// the TNs low and high, equal where it has but one.
+pub fn line(t: &[u8], n: usize, low: Tn, high: Tn, number: u16, create: bool) -> Facts
+    requires { ⌜ SoundTable (now t) n ⌝ }
+    requires { ⌜ (low .0 ≤ high .0) × (high .0 < 17179869184) ⌝ }
+    ensures { λ r. ⌜ Surveyed (decode (now (t .entry))) (rowsUnder (low .0) (high .0) (decode (now (t .entry)))) number create r ⌝ }
+{
+    let p = beyond(t, n, low, high, number);
+    let p = under(t, n, low, number, p);
+    whole(t, n, create, p)
 }
