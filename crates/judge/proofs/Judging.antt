@@ -12,7 +12,7 @@ use Rattle.model.specs.Numbers.{codeOf}
 use Rattle.model.specs.Books.{ownerOf}
 use Rattle.model.specs.Record.{isCreate, isAnswer}
 use Rattle.model.specs.Outcomes.{judge, orderOf}
-use Rattle.model.specs.Given.{Given, nameIn, found, lastStamp}
+use Rattle.model.specs.Given.{Given, found, lastStamp}
 use Rattle.model.specs.Creates.{currentFor}
 use Rattle.model.specs.Refusals.{absent, beforeDue, early, busy, busyWith, unawaited, notCurrent, unfit, anotherDue, exhausted, full, refuses}
 use Rattle.model.proofs.Lists.{clash}
@@ -43,7 +43,7 @@ no-due e (some v) h = rw h
 
 -- ---- the three orders
 
-module _ (t : List Version) (g : Given) (f : Facts) (s : Surveyed t (g .rows) (nameIn (g .event)) (isCreate (g .event .kind)) f) where
+module _ (t : List Version) (g : Given) (f : Facts) (s : Surveyed t (g .rows) (g .event .version) (isCreate (g .event .kind)) f) where
   pub create-judged : isCreate (g .event .kind) ≡ true
       → createFor (g .event) (absent (g .books) (g .event)) (ownerOf (g .books) (codeOf (g .event .tn))) f (g .free) ≡ judge (refuses g)
       (orderOf (g .event .kind))
@@ -59,8 +59,8 @@ module _ (t : List Version) (g : Given) (f : Facts) (s : Surveyed t (g .rows) (n
         s .newest,
         s .stamp,
         s .sending,
-        live-of t (g .rows) (nameIn (g .event)) _ f s k .is,
-        worked-of t (g .rows) (nameIn (g .event)) _ f s k .is,
+        live-of t (g .rows) (g .event .version) _ f s k .is,
+        worked-of t (g .rows) (g .event .version) _ f s k .is,
       )
 
   pub unknown-judged : isCreate (g .event .kind) ≡ false → found g ≡ none

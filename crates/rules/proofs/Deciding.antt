@@ -12,12 +12,11 @@ use borrow.Author.Tests.{eqb-true, leb-true, leb-false, le-leb, ltb-true, not-fa
 use Rattle.systems.specs.Set.{member}
 use Rattle.model.specs.Basics.{holds, isNone}
 use Rattle.model.specs.Books.{Books}
-use Rattle.model.specs.Table.{find, others}
 use Rattle.model.specs.Record.{isPlain, isCreate, isAnswer, isBroadcast, wellFormed, kindFits}
 use Rattle.model.specs.Sound.{apart, setsApart, retriesInRange}
 use Rattle.model.specs.Standing.{isGridKind}
 use Rattle.model.specs.Outcomes.{isDone, numberOf, judge, orderOf, createOrder, answerOrder}
-use Rattle.model.specs.Given.{Given, Result, nameIn, found}
+use Rattle.model.specs.Given.{Given, Result, withNumber, besides, found}
 use Rattle.model.specs.Answers.{answering, awaited, answers}
 use Rattle.model.specs.Creates.{oldIn, currentOr, fits}
 use Rattle.model.specs.Selection.{selectedFor}
@@ -25,7 +24,6 @@ use Rattle.model.specs.Refusals.{refuses, beforeStart}
 use Rattle.model.specs.Step.{manages, accepted, rule}
 use Rattle.model.proofs.Lists.{clash, conj-at, and-l, and-r}
 use Rattle.model.proofs.Formed.{fields, answering-named}
-use Rattle.model.proofs.TableLaws.{find-name}
 use Rattle.model.proofs.SoundSets.{apart-says, apart-turned}
 use Rattle.model.proofs.SoundRows.{Row, cast-ranges}
 use Rattle.answers.specs.Waits.{Waits}
@@ -41,7 +39,6 @@ use Rattle.verdict.specs.Verdict.{resultOf}
 use Rattle.verdict.specs.declared.Verdict.{Verdict}
 use Rattle.rules.specs.Rules.{Holds, Sits, Says, Settles, Manages, Creates, givenBy, Facing, Decides, refusedBy}
 use Rattle.rules.specs.declared.Known.{Known}
-use Rattle.model.specs.declared.Id.{Id}
 use Rattle.model.specs.declared.Event.{Event}
 use Rattle.model.specs.declared.Version.{Version}
 use Rattle.model.specs.declared.Outcome.{Outcome}
@@ -92,23 +89,20 @@ module _ (e : Event) (k : Known) (f : Facts) (o : Outcome) (c : isCreate (e .kin
     unfolding accepted
     create-says v s =
         accepted-says e k f o v create-judges d (λ bk r t fc. rw c (s t r (k .free) (fc .survey .newest)
-        (worked-of t r (nameIn e) _ f (fc .survey) c .is)
-        (worked-of t r (nameIn e) _ f (fc .survey) c .stands) (λ w.
+        (worked-of t r (e .version) _ f (fc .survey) c .is)
+        (worked-of t r (e .version) _ f (fc .survey) c .stands) (λ w.
         (create-free w, fc .fresh (f .newest + 1) (let h = fc .survey .newest in omega arith)))))
 
 -- ---- a version that is named
 module _ (e : Event) (k : Known) (f : Facts) (c : isCreate (e .kind) ≡ false) (bk : Books) (r t : List Version) (fc : Facing bk r t e k f)
   where
-    asked : Found t (f .asked) (find (nameIn e) r)
-    asked = asked-of t r (nameIn e) _ f (fc .survey) c
+    asked : Found t (f .asked) (withNumber (e .version) r)
+    asked = asked-of t r (e .version) _ f (fc .survey) c
 
     is-found : (s : Seen) → f .asked ≡ s → found (givenBy bk k e r) ≡ theOne s
     is-found s q = sym (asked .is) ∙ ap theOne q
 
     module _ (i : ℕ) (v : Version) (q : f .asked ≡ One i v) where
-      is-named : v .id ≡ nameIn e
-      is-named = find-name (nameIn e) r v (is-found (One i v) q)
-
       is-held : Holds t i (v .id)
       is-held = let s = subst (Stands t) q (asked .stands) in (s .0, ap (λ (x : Version). x .id) (s .1))
 
@@ -149,7 +143,7 @@ module _ (e : Event) (k : Known) (f : Facts) (i : ℕ) (v : Version) (q : f .ask
     answer-says d w s =
         accepted-says e k f o w answer-judges d (λ bk r t fc.
         rw (answer-create (e .kind) a, a, is-found e k f (answer-create (e .kind) a) bk r t fc (One i v) q)
-        (s t (others (nameIn e) r) (k .free) (is-held e k f (answer-create (e .kind) a) bk r t fc i v q)
+        (s t (besides (e .version) r) (k .free) (is-held e k f (answer-create (e .kind) a) bk r t fc i v q)
         (fc .lives (answer-create (e .kind) a))))
 
   -- ---- all others
@@ -163,9 +157,7 @@ module _ (e : Event) (k : Known) (f : Facts) (i : ℕ) (v : Version) (q : f .ask
     other-says d w s =
         accepted-says e k f o w other-judges d (λ bk r t fc.
         rw (c, a, is-found e k f c bk r t fc (One i v) q)
-        (s bk (λ b. fc .selected b ∙ ap (λ (x : Id). selectedFor bk (x .tn)) (sym (is-named e k f c bk r t fc i v q))) t
-        (others (nameIn e) r)
-        (k .free)
+        (s bk (λ b. fc .selected b v (is-found e k f c bk r t fc (One i v) q)) t (besides (e .version) r) (k .free)
         (is-held e k f c bk r t fc i v q) (fc .lives c)))
 
 -- ---- what the functions ask of a sound version

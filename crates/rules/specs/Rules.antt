@@ -3,16 +3,16 @@
 use mathlib.Core.Path.{_≡_}
 use Prim.Native.Nat.{ℕ, _+_, _<_}
 use mathlib.Core.Bool.{Bool, true, false, cond}
-use mathlib.Core.Option.{none}
+use mathlib.Core.Option.{none, some}
 use mathlib.Core.List.{List, _∷_}
 use lib.ListN.{length}
 use Rattle.model.specs.Basics.{keep}
 use Rattle.model.specs.Numbers.{codeOf}
 use Rattle.model.specs.Books.{Books, ownerOf}
-use Rattle.model.specs.Table.{put, find, others}
+use Rattle.model.specs.Table.{put, find}
 use Rattle.model.specs.Sound.{live}
 use Rattle.model.specs.Record.{isCreate, isBroadcast}
-use Rattle.model.specs.Given.{Given, Result, nameIn, newest, workedOne}
+use Rattle.model.specs.Given.{Given, Result, withNumber, besides, newest, workedOne}
 use Rattle.model.specs.Selection.{selectedFor}
 use Rattle.model.specs.Closing.{open?, takesOver, settled, settles}
 use Rattle.model.specs.Creates.{creates}
@@ -107,9 +107,10 @@ givenBy bk k e r = record { books = bk; most = k .most; free = k .free; event = 
 pub record Facing (bk : Books) (r t : List Version) (e : Event) (k : Known) (f : Facts) : Type 0 where
   pub absent : k .absent ≡ absent bk e
   pub owner : isCreate (e .kind) ≡ true → k .owner ≡ ownerOf bk (codeOf (e .tn))
-  pub selected : isBroadcast (e .kind) ≡ true → k .selected ≡ selectedFor bk (e .tn)
-  pub survey : Surveyed t r (nameIn e) (isCreate (e .kind)) f
-  pub lives : isCreate (e .kind) ≡ false → Lives t (f .former) (others (nameIn e) r)
+  pub selected : isBroadcast (e .kind) ≡ true → (v : Version) → withNumber (e .version) r ≡ some v
+      → k .selected ≡ selectedFor bk (v .id .tn)
+  pub survey : Surveyed t r (e .version) (isCreate (e .kind)) f
+  pub lives : isCreate (e .kind) ≡ false → Lives t (f .former) (besides (e .version) r)
   pub fresh : (n : ℕ) → newest r < n → find (record { tn = e .tn; number = n }) t ≡ none
 
 -- the verdict says the model's rule, whatever books and rows the values are of
