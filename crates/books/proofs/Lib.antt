@@ -1,1 +1,2 @@
 pub mod Filters
+pub mod Naming

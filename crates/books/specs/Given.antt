@@ -46,3 +46,8 @@ module _ (m : Marks) (bs : List ℕ) (e : soundBytes m bs ≡ true) where
   sound-filters =
       and-r (soundMarks m && soundCodes m (codesOf bs)) (soundFilters m (filtersOf bs))
       (and-l (soundMarks m && soundCodes m (codesOf bs) && soundFilters m (filtersOf bs)) (soundSplits (splitsOf bs)) sound-books)
+
+  pub sound-splits : soundSplits (splitsOf bs) ≡ true
+  unfolding soundBooks
+  sound-splits =
+      and-r (soundMarks m && soundCodes m (codesOf bs) && soundFilters m (filtersOf bs)) (soundSplits (splitsOf bs)) sound-books

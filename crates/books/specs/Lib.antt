@@ -3,3 +3,4 @@ pub mod Places
 pub mod Search
 pub mod Given
 pub mod Worked
+pub mod Line

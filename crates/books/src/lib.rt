@@ -4,8 +4,11 @@ ghost use lib.ListN.{length};
 use model::Tn;
 ghost use Rattle.model.specs.Numbers.{codeOf};
 ghost use Rattle.model.specs.declared.Marks.{Marks};
-ghost use Rattle.model.specs.Books.{ownerOf, partnerOf};
-ghost use Rattle.books.specs.Packed.{bookBytes, decodeBooks};
+ghost use mathlib.Core.Bool.{true};
+ghost use Prim.Native.Nat.{_<_};
+ghost use Rattle.model.specs.Books.{ownerOf, partnerOf, soundSplits};
+ghost use Rattle.books.specs.Packed.{bookBytes, splitsOf, decodeBooks};
+ghost use Rattle.books.specs.Line.{Named};
 
 pub const BOOK_BYTES: usize = 8712;
 // Codes, and filters: as many places each.
@@ -59,4 +62,34 @@ pub fn partner(books: &[u8], code: u64) -> u64
         i += 1;
     }
     0
+}
+
+// The names of a line: the smaller TN and the larger, or one TN twice where its code stands in no pair.
+pub struct Names {
+    pub low: Tn,
+    pub high: Tn,
+}
+
+// The names of the line that a TN names. [A3.1]
+pub fn line_names(books: &[u8], tn: Tn) -> Names
+    requires { ⌜ length (now books) ≡ bookBytes ⌝ }
+    requires { ⌜ (soundSplits (splitsOf (now books)) ≡ true) × (tn .0 < 17179869184) ⌝ }
+    ensures { λ r. ⌜ Named (splitsOf (now (books .entry))) (tn .0) r ⌝ }
+{
+    let code = code_of(tn);
+    let other = partner(books, code);
+    if other == 0 {
+        return Names { low: tn, high: tn };
+    }
+    let twin = Tn(other * 10000 + tn.0 % 10000);
+    if twin.0 < tn.0 {
+        return Names {
+            low: twin,
+            high: tn,
+        };
+    }
+    Names {
+        low: tn,
+        high: twin,
+    }
 }

@@ -33,8 +33,10 @@ use Rattle.providers.specs.declared.Listed.{Listed}
 use Rattle.books.specs.Packed.{decodeBooks, soundBytes}
 use Rattle.books.specs.Given.{sound-books}
 use Rattle.rows.specs.Table.{decode, encode}
-use Rattle.scan.specs.Sound.{rowsIn, soundnessOf, itself}
-use Rattle.scan.proofs.Meant.{sound-says, says-sound}
+use Rattle.scan.specs.Sound.{rowsIn, itself}
+use Rattle.scan.proofs.Meant.{sound-says}
+use Rattle.lines.specs.Lines.{lineBy}
+use Rattle.lines.proofs.Meaning.{in-scan, table-lines, lines-table, says-sound-in}
 use Rattle.table.proofs.Steps.{says-again, rows-again}
 use Rattle.tray.specs.Tray.{placesIn}
 use Rattle.engine.specs.Event.{tableAfter}
@@ -100,12 +102,15 @@ module _ (p b : List ℕ) (most : ℕ) (y : List ℕ) (rows : ℕ) where
 
   module _ (hl : L .sound ≡ true) (hb : soundBytes (L .marks) b ≡ true) where
     module _ (vs : List Version) (h : unsound S vs ≡ false) where
+      lined : soundTable (lineBy b) rows vs ≡ true
+      lined = says-table (lineBy b) rows vs (sane-of S vs h .table)
+
       sound : soundTable itself rows vs ≡ true
-      sound = says-table itself rows vs (sane-of S vs h .table)
+      sound = lines-table (lineBy b) rows vs lined .0
 
       pub at : (e : List ℕ) → isRecord (readEvent e) ≡ true → resultOf p b most e (encode vs rows) y ≡ stepOf S (fieldsIn e) vs
       unfolding resultIn
-      at e f = rw (says-sound vs rows sound, hl, hb, record-is e f, says-again vs rows sound, rows-again vs rows sound)
+      at e f = rw (says-sound-in b vs rows lined, hl, hb, record-is e f, says-again vs rows sound, rows-again vs rows sound)
 
       pub next : (e : List ℕ) → isRecord (readEvent e) ≡ true
           → tableBy p b most y e (encode vs rows) ≡ encode (after (stepOf S) (fieldsIn e) vs) rows
@@ -142,7 +147,7 @@ module _ (p b : List ℕ) (most : ℕ) (y : List ℕ) (rows : ℕ) where
         (stays-sound S (fieldsIn e) vs h) r)
 
     pub same-bytes : (ns : List ℕ) (es : List (List ℕ)) (vs : List Version) → unsound S vs ≡ false → Records es
-        → Same (stepOf S) ns (map fieldsIn es) vs
+        → Same (lineBy b) (stepOf S) ns (map fieldsIn es) vs
         → SameBytes p b most y ns es (encode vs rows)
     same-bytes ns es vs h r q =
         let k : Records (reorder ns es) = all-reorder (λ (e : List ℕ). isRecord (readEvent e) ≡ true) ns es r in
@@ -158,9 +163,9 @@ module _ (p b : List ℕ) (most : ℕ) (y : List ℕ) (rows : ℕ) where
               ∙ reorder-map numberOf ns (outcomes (stepOf S) (map fieldsIn es) vs)
               ∙ ap (reorder ns) (sym (numbers-are es vs h r));
           mail = λ local s n.
-              ap (mailOf local s n) (messages-are (reorder ns es) vs h k ∙ ap (λ (l : List Event). messages (stepOf S) l vs) m)
+              ap (mailOf (lineBy b) local s n) (messages-are (reorder ns es) vs h k ∙ ap (λ (l : List Event). messages (stepOf S) l vs) m)
               ∙ q .mail local s n
-              ∙ ap (mailOf local s n) (sym (messages-are es vs h r));
+              ∙ ap (mailOf (lineBy b) local s n) (sym (messages-are es vs h r));
         }
 
 -- ---- demand 3
@@ -176,11 +181,12 @@ length-map (e ∷ es) = ap suc (length-map es)
 
 pub byte-reordering : ByteDemand3
 byte-reordering p b most y ns es t used l may =
-    let s = sound-says t used (l .bytes) (l .table) in
+    let k = in-scan b t used (l .table) in
+    let s = sound-says t used (l .bytes) (k .0) in
     let marks = listed (map entryOf p) .marks in
     let S : Setting = record { books = decodeBooks marks b; most = most; rows = rowsIn t; places = placesIn y } in
     let h : unsound S (decode t) ≡ false = of-sane S (decode t) (record {
-      table = table-says itself (rowsIn t) (decode t) (s .sound);
+      table = table-says (lineBy b) (rowsIn t) (decode t) (table-lines (lineBy b) (rowsIn t) (decode t) (s .sound) (k .1));
       books = sound-books marks b (l .books);
       retries = le-leb most 7 (l .retries);
       places = le-leb 64 (placesIn y) (l .places);
@@ -194,4 +200,4 @@ byte-reordering p b most y ns es t used l may =
           (subst (λ (n : ℕ). n + length es ≤ rowsIn t) (sym (s .count)) (l .free));
       formed = formed-fields es (l .formed);
     })
-    (may-map fieldsIn (Exchangeable itself) ns es may)))
+    (may-map fieldsIn (Exchangeable (lineBy b)) ns es may)))

@@ -4,40 +4,44 @@ use mathlib.Core.Path.{_≡_, refl, sym, ap, ap₂, _∙_, subst}
 use Prim.Native.Nat.{ℕ, _^_, _<_, _≤_}
 use native.Mathlib.Omega.{arith}
 use mathlib.Core.Bool.{Bool, true, false, cond}
-use mathlib.Core.Option.{none}
+use mathlib.Core.Option.{none, some}
 use mathlib.Core.List.{List, [], _∷_}
-use lib.Dec.{ltb}
+use lib.Dec.{eqb, ltb}
 use lib.ListN.{length, getD}
-use borrow.Author.Tests.{ltb-true, le-leb}
+use borrow.Author.Tests.{eqb-true, ltb-true, le-leb}
 use Rattle.model.specs.Basics.{All, none as nothing, with}
 use Rattle.systems.specs.Set.{maskOf}
 use Rattle.model.specs.Numbers.{tenDigits, codeOf}
 use Rattle.model.specs.Selection.{selects, selectedFor}
-use Rattle.model.specs.Table.{Change, changes, rowsOf, find}
-use Rattle.model.specs.Record.{isCreate, wellFormed, fitsBits, kindFits, named}
+use Rattle.model.specs.Table.{Change, changes}
+use Rattle.model.specs.Sound.{numbered, soundLines}
+use Rattle.model.specs.Record.{isCreate, isBroadcast, wellFormed, fitsBits, kindFits, named}
 use Rattle.model.specs.Outcomes.{isDone, numberOf}
-use Rattle.model.specs.Given.{Given, Result, nameIn}
+use Rattle.model.specs.Given.{Given, Result, withNumber}
 use Rattle.model.specs.Step.{rule}
-use Rattle.model.proofs.Lists.{all-keep, conj-at, head-of}
+use Rattle.model.proofs.Lists.{clash, nothing-some, keep-same, all-keep, all-first, conj-at, head-of}
 use Rattle.model.proofs.TableLaws.{rising-part}
 use Rattle.model.proofs.Apart.{rows-rows}
 use Rattle.model.proofs.Effects.{Modest, modest-rule}
-use Rattle.model.proofs.SoundLines.{all-find}
 use Rattle.model.proofs.SoundRows.{Row, of-row}
 use Rattle.model.proofs.SoundLaws.{Brings, Ground}
 use Rattle.model.proofs.SoundTables.{table-says}
 use Rattle.model.proofs.SoundStep.{keeps-rule}
-use Rattle.books.specs.Packed.{decodeBooks}
+use Rattle.books.specs.Packed.{decodeBooks, splitsOf}
+use Rattle.books.specs.Line.{Named}
+use Rattle.books.specs.declared.Names.{Names}
 use Rattle.row.proofs.Rooms.{sound-room}
 use Rattle.row.specs.Layout as row
 use Rattle.rows.specs.Table.{decode, encode}
-use Rattle.scan.specs.Sound.{rowsIn, itself, SoundTable}
-use Rattle.table.specs.Survey.{Surveyed, theOne, listOf, versionAt}
+use Rattle.scan.specs.Sound.{rowsIn, SoundTable}
+use Rattle.lines.specs.Lines.{lineBy}
+use Rattle.lines.proofs.Meaning.{table-lines}
+use Rattle.table.specs.Survey.{Surveyed, rowsUnder, theOne, listOf, versionAt}
 use Rattle.table.specs.Change.{Over, Applicable}
 use Rattle.table.specs.declared.survey.Facts.{Facts}
 use Rattle.table.specs.declared.survey.Seen.{Seen}
 use Rattle.table.specs.declared.survey.Seen.the-variants as seen
-use Rattle.table.proofs.Asked.{others-live, fresh-absent}
+use Rattle.table.proofs.Asked.{besides-live, fresh-absent}
 use Rattle.table.proofs.Surveys.{former-of, asked-of}
 use Rattle.tray.specs.Tray.{Small, Fits, placesIn, putAll, Told}
 use Rattle.verdict.specs.Verdict.{changesOf, messagesOf}
@@ -48,9 +52,8 @@ use Rattle.rules.specs.Rules.{Holds, Sits, Says, Kept, givenBy, Facing, Decides
 use Rattle.rules.specs.declared.Known.{Known}
 use Rattle.outcomes.specs.Answered.{answerOf}
 use Rattle.outcomes.specs.declared.Answer.{Answer}
-use Rattle.engine.specs.Event.{Ready, Did, KnownTo, givenTo, tableAfter}
+use Rattle.engine.specs.Event.{Ready, Did, KnownTo, lineRows, givenTo, tableAfter}
 use Rattle.engine.proofs.Posting.{rule-mail}
-use Rattle.model.specs.declared.Id.{Id}
 use Rattle.model.specs.declared.Tn.{Tn}
 use Rattle.model.specs.declared.Event.{Event}
 use Rattle.model.specs.declared.Marks.{Marks}
@@ -69,25 +72,25 @@ tn-small e h =
 
 -- ---- over a sound table
 module _ (m : Marks) (b : List ℕ) (most : ℕ) (t : List ℕ) (n : ℕ) (e : Event) (few : most ≤ 7) (st : SoundTable t n)
-    (formed : wellFormed e ≡ true) where
+    (ls : soundLines (lineBy b) (decode t) ≡ true) (formed : wellFormed e ≡ true) where
   abbrev G : Given
   G = givenTo m b most t e
 
-  pub ground : Ground itself (e .tn .0) (G .rows)
+  pub ground : Ground (lineBy b) (lineBy b (e .tn .0)) (G .rows)
   ground =
-      let s = table-says itself (rowsIn t) (decode t) (st .sound) in
+      let s = table-says (lineBy b) (rowsIn t) (decode t) (table-lines (lineBy b) (rowsIn t) (decode t) (st .sound) ls) in
       record {
-        own = rows-rows itself (e .tn .0) (decode t);
+        own = rows-rows (lineBy b) (lineBy b (e .tn .0)) (decode t);
         rising = rising-part _ (decode t) (s .sound .rising);
-        rows = all-keep _
-            (s .sound .rows);
-        line = s .sound .lines (e .tn .0);
+        rows = all-keep _ (s .sound .rows);
+        line = s .sound .lines (lineBy b (e .tn .0));
+        numbers = s .sound .numbers (lineBy b (e .tn .0));
       }
 
   pub rule-rows : All (Brings Row) (rule G .does)
   rule-rows =
       rw formed at
-      (keeps-rule itself (record { books = decodeBooks m b; most = most; rows = 0; places = 0 }) (le-leb most 7 few) (G .free) e (G .rows)
+      (keeps-rule (lineBy b) (record { books = decodeBooks m b; most = most; rows = 0; places = 0 }) (le-leb most 7 few) (G .free) e (G .rows)
       ground .rows)
 
 -- ---- rows that sit and fit may be changed
@@ -114,35 +117,59 @@ small-of : {ms : List Message} → All Fits ms → All Small ms
 small-of nothing = nothing
 small-of (with h hs) = with (h .small) (small-of hs)
 
-pub surveyed-for : (t r : List Version) (k : Id) (f : Facts) (c d : Bool) → c ≡ d → Surveyed t r k c f → Surveyed t r k d f
-surveyed-for t r k f c d e s = subst (λ (b : Bool). Surveyed t r k b f) e s
+-- the rows under the two names are the rows of the line
+pub surveyed-for : (b : List ℕ) (e : Event) (w : Names) (t : List Version) (f : Facts) (c : Bool) → Named (splitsOf b) (e .tn .0) w
+    → c ≡ isCreate (e .kind) → Surveyed t (rowsUnder (w .low .0) (w .high .0) t) (e .version) c f
+    → Surveyed t (lineRows b e t) (e .version) (isCreate (e .kind)) f
+surveyed-for b e w t f c d q s =
+    subst (λ (r : List Version). Surveyed t r (e .version) (isCreate (e .kind)) f) (keep-same _ _ t (λ v. d .names (v .id .tn .0)))
+    (subst (λ (x : Bool). Surveyed t (rowsUnder (w .low .0) (w .high .0) t) (e .version) x f) q s)
+
+-- a broadcast is no create
+cast-create : (k : ℕ) → isBroadcast k ≡ true → isCreate k ≡ false
+cast-create k h = go (isCreate k) refl
+  where
+    at : (n : ℕ) → eqb k n ≡ true → isBroadcast n ≡ false → isCreate k ≡ false
+    at n e q = clash (sym (subst (λ (j : ℕ). isBroadcast j ≡ false) (sym (eqb-true k n e)) q) ∙ h)
+
+    go : (c : Bool) → isCreate k ≡ c → isCreate k ≡ false
+    go false q = q
+    go true q = by (eqb k 1) refl (eqb k 2) refl
+      where
+        by : (a : Bool) → eqb k 1 ≡ a → (b : Bool) → eqb k 2 ≡ b → isCreate k ≡ false
+        by true p b r = at 1 p refl
+        by false p true r = at 2 r refl
+        by false p false r = clash (rw (p, r) at q)
 
 -- ---- one event
-module _ (m : Marks) (b : List ℕ) (most : ℕ) (t : List ℕ) (n : ℕ) (e : Event) (places : ℕ) (st : SoundTable t n) (rd : Ready m b e places)
-    (few : most ≤ 7) (f : Facts) (k : Known)
-    (sv : Surveyed (decode t) (rowsOf itself (e .tn .0) (decode t)) (nameIn e) (isCreate (e .kind)) f)
-    (kn : KnownTo m b most (ltb n (rowsIn t)) e k) where
+module _ (m : Marks) (b : List ℕ) (most : ℕ) (t : List ℕ) (n : ℕ) (e : Event) (places : ℕ) (st : SoundTable t n)
+    (ls : soundLines (lineBy b) (decode t) ≡ true) (rd : Ready m b e places) (few : most ≤ 7) (f : Facts) (k : Known)
+    (sv : Surveyed (decode t) (lineRows b e (decode t)) (e .version) (isCreate (e .kind)) f)
+    (kn : KnownTo m b most (ltb n (rowsIn t)) e (f .asked) k) where
   abbrev Rows-of : List Version
-  Rows-of = rowsOf itself (e .tn .0) (decode t)
+  Rows-of = lineRows b e (decode t)
+
+  grounded : Ground (lineBy b) (lineBy b (e .tn .0)) Rows-of
+  grounded = ground m b most t n e few st ls (rd .formed)
 
   -- the version that was asked for is sound
   pub decide-asks : ((wellFormed e ≡ true) × (k .most ≤ 7)) × (isCreate (e .kind) ≡ false → Kept (f .asked))
   decide-asks = ((rd .formed, rw (kn .most) few), λ c. go (f .asked) (asked-of _ _ _ _ f sv c .is))
     where
-      go : (s : Seen) → theOne s ≡ find (nameIn e) Rows-of → Kept s
+      go : (s : Seen) → theOne s ≡ withNumber (e .version) Rows-of → Kept s
       go seen.Nobody q = tt
-      go (seen.One i v) q = all-find (nameIn e) v (ground m b most t n e few st (rd .formed) .rows) (sym q)
+      go (seen.One i v) q = all-first (numbered (e .version)) v (grounded .rows) (sym q)
 
   facing : Facing (decodeBooks m b) Rows-of (decode t) e k f
   facing = record {
     absent = kn .absent;
     owner = kn .owner;
-    selected = kn .selected;
+    selected = λ c v q. kn .selected c v (asked-of _ _ _ _ f sv (cast-create (e .kind) c) .is ∙ q);
     survey = sv;
     lives = λ c.
         let l = former-of _ _ _ _ f sv c in
-        record { only = others-live (rowsIn t) (decode t) (st .sound) (nameIn e) ∙ ap listOf (sym (l .is)); stands = l .stands };
-    fresh = λ j l. fresh-absent (record { tn = e .tn; number = j }) (decode t) l;
+        record { only = besides-live (e .version) Rows-of (grounded .line .lives) ∙ ap listOf (sym (l .is)); stands = l .stands };
+    fresh = λ j l. fresh-absent (lineBy b) (record { tn = e .tn; number = j }) (decode t) l;
   }
 
   given-is : givenBy (decodeBooks m b) k e Rows-of ≡ givenTo m b most t e
@@ -164,7 +191,7 @@ module _ (m : Marks) (b : List ℕ) (most : ℕ) (t : List ℕ) (n : ℕ) (e : E
     sent-is = ap (λ (x : Result). x .sent) (says .is)
 
     brought : All (Brings Row) (X .does)
-    brought = rule-rows m b most t n e few st (rd .formed)
+    brought = rule-rows m b most t n e few st ls (rd .formed)
 
     modest : Modest X
     modest = modest-rule (givenTo m b most t e)
@@ -178,7 +205,7 @@ module _ (m : Marks) (b : List ℕ) (most : ℕ) (t : List ℕ) (n : ℕ) (e : E
     may-deliver =
         rw sent-is (
           let l : 64 ≤ places = rd .places in let s : length (X .sent) ≤ 63 = modest .few in omega arith,
-          small-of (rule-mail (givenTo m b most t e) (ground m b most t n e few st (rd .formed) .rows) (rd .formed) brought),
+          small-of (rule-mail (givenTo m b most t e) (grounded .rows) (rd .formed) brought),
         )
 
     pub did : (y u z : List ℕ) (c : ℕ) (a : Answer) → u ≡ encode (changes (changesOf (v .rows)) (decode t)) (rowsIn t)
@@ -202,3 +229,14 @@ pub selected-is : (m : Marks) (b : List ℕ) (tn : Tn) (s code : ℕ) → code �
     → s ≡ selectedFor (decodeBooks m b) tn
 unfolding selectedFor
 selected-is m b tn s code q p = p ∙ ap (λ (x : ℕ). maskOf (selects (decodeBooks m b) x) 63) q
+
+-- the version that was seen is the one
+pub the-seen : (s : Seen) (i : ℕ) (w v : Version) → s ≡ seen.One i w → theOne s ≡ some v → codeOf (w .id .tn) ≡ codeOf (v .id .tn)
+the-seen s i w v q p =
+    let e : some w ≡ some v = sym (ap theOne q) ∙ p in
+    let z : w ≡ v = cc in
+    ap (λ (x : Version). codeOf (x .id .tn)) z
+
+-- nobody was seen
+pub none-seen : (s : Seen) (v : Version) {X : Type 0} → s ≡ seen.Nobody → theOne s ≡ some v → X
+none-seen s v q p = absurd (nothing-some (sym (ap theOne q) ∙ p))

@@ -23,17 +23,18 @@ use Rattle.model.specs.declared.Reading.the-variants.{Record, Malformed}
 use Rattle.packing.specs.Layout.{readEvent}
 use Rattle.providers.specs.declared.Listed.{Listed}
 use Rattle.rows.specs.Table.{decode, encode}
-use Rattle.scan.specs.Sound.{rowsIn, itself, soundnessOf, SoundTable}
+use Rattle.scan.specs.Sound.{rowsIn, itself, SoundTable}
+use Rattle.lines.specs.Lines.{lineBy, soundnessIn}
+use Rattle.lines.proofs.Meaning.{lines-table, says-sound-in}
 use Rattle.scan.specs.declared.Soundness.the-variants.{Sound}
-use Rattle.scan.proofs.Meant.{says-sound}
 use Rattle.table.proofs.Steps.{says-again, rows-again, sound-again}
 use Rattle.engine.specs.Event.{tableAfter}
 use Rattle.engine.specs.Step.{settingOf, formed, resultIn}
 
--- u is a sound table, as its scan says, and has as many rows as t
-pub record Again (t u : List ℕ) : Type 0 where
+-- u is a table that is sound with the books b, and has as many rows as t
+pub record Again (b t u : List ℕ) : Type 0 where
   pub table : SoundTable u (length (decode u))
-  pub scanned : soundnessOf u ≡ Sound (length (decode u))
+  pub scanned : soundnessIn b u ≡ Sound (length (decode u))
   pub rows : rowsIn u ≡ rowsIn t
 
 -- what holds of the result of a step on t
@@ -79,24 +80,24 @@ module _ (l : Listed) (b : List ℕ) (most : ℕ) (e t y : List ℕ) where
   abbrev pub usedAfter : ℕ
   usedAfter = length (changes (X .does) (decode t))
 
-  pub done-scanned : isDone (X .out) ≡ true → soundnessOf (tableAfter X t) ≡ Sound usedAfter
+  pub done-scanned : isDone (X .out) ≡ true → soundnessIn b (tableAfter X t) ≡ Sound usedAfter
   done-scanned h =
-      ap (λ (d : Bool). soundnessOf (cond d (encode (changes (X .does) (decode t)) (rowsIn t)) t)) h
-      ∙ says-sound (changes (X .does) (decode t)) (rowsIn t) (kept .sound h)
+      ap (λ (d : Bool). soundnessIn b (cond d (encode (changes (X .does) (decode t)) (rowsIn t)) t)) h
+      ∙ says-sound-in b (changes (X .does) (decode t)) (rowsIn t) (kept .sound h)
 
   -- On a sound table a step leaves a sound table of as many rows, whatever its outcome.
-  pub again : (n : ℕ) → SoundTable t n → soundnessOf t ≡ Sound n → Again t (tableAfter X t)
+  pub again : (n : ℕ) → SoundTable t n → soundnessIn b t ≡ Sound n → Again b t (tableAfter X t)
   again n s q = go (isDone (X .out)) refl
     where
-      go : (d : Bool) → isDone (X .out) ≡ d → Again t (tableAfter X t)
+      go : (d : Bool) → isDone (X .out) ≡ d → Again b t (tableAfter X t)
       go true h =
           let vs : List Version = changes (X .does) (decode t) in
-          let k : soundTable itself (rowsIn t) vs ≡ true = kept .sound h in
+          let k : soundTable itself (rowsIn t) vs ≡ true = lines-table (lineBy b) (rowsIn t) vs (kept .sound h) .0 in
           let c : length (decode (encode vs (rowsIn t))) ≡ length vs = ap length (says-again vs (rowsIn t) k) in
           rw h
           (record {
             table = subst (λ (m : ℕ). SoundTable (encode vs (rowsIn t)) m) (sym c) (sound-again vs (rowsIn t) k);
-            scanned = says-sound vs (rowsIn t) k ∙ ap Sound (sym c);
+            scanned = says-sound-in b vs (rowsIn t) (kept .sound h) ∙ ap Sound (sym c);
             rows = rows-again vs (rowsIn t) k;
           })
       go false h =

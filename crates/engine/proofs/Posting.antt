@@ -12,7 +12,7 @@ use Rattle.model.specs.Basics.{All, none, with}
 use Rattle.model.specs.Books.{Books}
 use Rattle.model.specs.Table.{put}
 use Rattle.model.specs.Record.{wellFormed}
-use Rattle.model.specs.Given.{Given, Result, accept, nameIn, rest}
+use Rattle.model.specs.Given.{Given, Result, accept, rest}
 use Rattle.model.specs.Selection.{selectedFor}
 use Rattle.model.specs.Creates.{creates, freshVersion, concurred}
 use Rattle.model.specs.Changes.{modified, turns, cancelled, acknowledged, resolved, windowTurned, windowMarked, windowMarks}
@@ -22,11 +22,11 @@ use Rattle.model.specs.Closing.{open?, closed, closingTold, settled, settlingTo
 use Rattle.model.specs.Tray.{membersTo, members, message, noLrn, toSoas, sidesTold, restatedTold, statusTold, attributesTold, downloadTo}
 use Rattle.model.specs.Tray.{downloads}
 use Rattle.model.specs.Step.{manages, accepted, rule}
-use Rattle.model.proofs.Lists.{head-of}
+use Rattle.model.proofs.Lists.{head-of, all-first}
 use Rattle.model.proofs.Ways.{by-way, by-worked, by-kind, by-order}
 use Rattle.model.proofs.Formed.{answering-named}
 use Rattle.model.proofs.Effects.{no-members}
-use Rattle.model.proofs.SoundLines.{all-find}
+use Rattle.model.specs.Sound.{numbered}
 use Rattle.model.proofs.SoundLaws.{Brings}
 use Rattle.model.proofs.SoundRows.{Row, of-row}
 use Rattle.tray.specs.Tray.{Fits}
@@ -184,7 +184,7 @@ rule-mail g rows formed = by-order Mails g (λ _. accepted-mail) (λ _. record {
     accepted-mail = by-kind Mails g (record {
       create = λ _. creates-mail (g .event) (g .rows);
       answer = λ _ a v q.
-          answers-mail (g .most) (g .event) v (rest g) (all-find (nameIn (g .event)) v rows q) (answering-named (g .event) formed a .1);
+          answers-mail (g .most) (g .event) v (rest g) (all-first (numbered (g .event .version)) v rows q) (answering-named (g .event) formed a .1);
       manage = λ _ _ v _. manages-mail (g .books) (g .event) v (rest g);
       unknown = record { fit = λ h. none };
     })

@@ -8,7 +8,7 @@ use mathlib.Core.List.{List, map}
 use lib.Dec.{ltb, leb}
 use borrow.Author.Tests.{leb-true}
 use Rattle.model.specs.Books.{soundBooks, soundRetries}
-use Rattle.model.specs.Sound.{soundTable}
+use Rattle.model.specs.Sound.{soundLines, soundTable}
 use Rattle.model.specs.Record.{wellFormed}
 use Rattle.model.specs.Given.{Result, refuse}
 use Rattle.model.specs.Step.{Setting, unsound, line, given, whenRead, rule}
@@ -24,7 +24,9 @@ use Rattle.providers.specs.declared.Listed.{Listed}
 use Rattle.books.specs.Packed.{decodeBooks, soundBytes}
 use Rattle.books.specs.Given.{sound-books}
 use Rattle.rows.specs.Table.{decode}
-use Rattle.scan.specs.Sound.{rowsIn, soundnessOf, SoundTable, itself}
+use Rattle.scan.specs.Sound.{rowsIn, soundnessOf, SoundTable}
+use Rattle.lines.specs.Lines.{lineBy, soundnessIn}
+use Rattle.lines.proofs.Meaning.{in-scan, scan-in, scan-out, lines-out, table-lines}
 use Rattle.scan.specs.declared.Soundness.the-variants.{Unsound, Sound}
 use Rattle.tray.specs.Tray.{placesIn, putAll}
 use Rattle.engine.specs.Event.{Did, Ready, givenTo}
@@ -45,27 +47,43 @@ module _ (l : Listed) (b : List ℕ) (most : ℕ) (xs t y : List ℕ) where
   abbrev X : Result
   X = resultIn l b most xs t y
 
-  -- the bytes are no table
-  pub no-table : soundnessOf t ≡ Unsound → X ≡ refuse outcome.Unsound
+  -- the bytes are no table, or its lines are unsound
+  pub no-table : soundnessIn b t ≡ Unsound → X ≡ refuse outcome.Unsound
   unfolding resultIn
   no-table h = rw h
 
-  module _ (n : ℕ) (st : SoundTable t n) (h : soundnessOf t ≡ Sound n) where
-    tables : soundTable (line (settingOf (l .marks) b most t y)) (rowsIn t) (decode t) ≡ true
-    tables = st .sound
+  pub unscanned : soundnessOf t ≡ Unsound → X ≡ refuse outcome.Unsound
+  unscanned h = no-table (scan-out b t h)
 
+  pub unlined : (n : ℕ) → soundnessOf t ≡ Sound n → soundLines (lineBy b) (decode t) ≡ false → X ≡ refuse outcome.Unsound
+  unlined n h k = no-table (lines-out b t n h k)
+
+  module _ (n : ℕ) (st : SoundTable t n) (h : soundnessOf t ≡ Sound n) where
     pub unfit-refused : fitting l b most (placesIn y) ≡ false → X ≡ refuse outcome.Unsound
     unfolding resultIn model.step unsound
-    unfit-refused q = go (l .sound) refl (soundBytes (l .marks) b) refl (leb most 7) refl (leb 64 (placesIn y)) refl
+    unfit-refused q = at (soundLines (lineBy b) (decode t)) refl
       where
-        go : (x : Bool) → l .sound ≡ x → (k : Bool) → soundBytes (l .marks) b ≡ k → (r : Bool) → leb most 7 ≡ r → (w : Bool)
-            → leb 64 (placesIn y) ≡ w
+        go : soundnessIn b t ≡ Sound n → soundTable (lineBy b) (rowsIn t) (decode t) ≡ true → (x : Bool) → l .sound ≡ x → (k : Bool)
+            → soundBytes (l .marks) b ≡ k → (r : Bool) → leb most 7 ≡ r → (w : Bool) → leb 64 (placesIn y) ≡ w
             → X ≡ refuse outcome.Unsound
-        go false a k c r d w f = rw (h, a)
-        go true a false c r d w f = rw (h, a, c)
-        go true a true c false d w f = rw (h, a, c, tables, sound-books (l .marks) b c, d)
-        go true a true c true d false f = rw (h, a, c, tables, sound-books (l .marks) b c, d, f)
-        go true a true c true d true f = clash (sym (rw (a, c, d, f) at q))
+        go s u false a k c r d w f = rw (s, a)
+        go s u true a false c r d w f = rw (s, a, c)
+        go s u true a true c false d w f = rw (s, a, c, u, sound-books (l .marks) b c, d)
+        go s u true a true c true d false f = rw (s, a, c, u, sound-books (l .marks) b c, d, f)
+        go s u true a true c true d true f = clash (sym (rw (a, c, d, f) at q))
+
+        at : (k : Bool) → soundLines (lineBy b) (decode t) ≡ k → X ≡ refuse outcome.Unsound
+        at false k = unlined n h k
+        at true k =
+            go (scan-in b t n h k) (table-lines (lineBy b) (rowsIn t) (decode t) (st .sound) k) (l .sound) refl (soundBytes (l .marks) b) refl
+            (leb most 7) refl (leb 64 (placesIn y)) refl
+
+  module _ (n : ℕ) (st : SoundTable t n) (h : soundnessIn b t ≡ Sound n) where
+    pub lines-sound : soundLines (lineBy b) (decode t) ≡ true
+    lines-sound = in-scan b t n h .1
+
+    tables : soundTable (line (settingOf (l .marks) b most t y)) (rowsIn t) (decode t) ≡ true
+    tables = table-lines (lineBy b) (rowsIn t) (decode t) (st .sound) lines-sound
 
     module _ (q : fitting l b most (placesIn y) ≡ true) where
       q3 : ((l .sound && soundBytes (l .marks) b) && leb most 7) ≡ true
@@ -86,6 +104,10 @@ module _ (l : Listed) (b : List ℕ) (most : ℕ) (xs t y : List ℕ) where
       pub fit-ready : (e : Event) → readEvent xs ≡ Record e → Ready (l .marks) b e (placesIn y) × (most ≤ 7)
       fit-ready e r =
           (record { sound = books; formed = read-is-formed xs e r; places = leb-true 64 (placesIn y) room }, leb-true most 7 few)
+
+      pub fit-all : (e : Event) → readEvent xs ≡ Record e
+          → Ready (l .marks) b e (placesIn y) × (most ≤ 7) × (soundLines (lineBy b) (decode t) ≡ true)
+      fit-all e r = let f = fit-ready e r in (f .0, f .1, lines-sound)
 
       fits : X ≡ whenRead (readEvent xs) (λ (e : Event). rule (given (settingOf (l .marks) b most t y) e (decode t)))
       unfolding resultIn model.step unsound

@@ -14,7 +14,8 @@ use Rattle.model.specs.Exchange.{Exchangeable, May, reorder, mailOf}
 use Rattle.packing.specs.Layout.{widths, eventOf, readEvent}
 use Rattle.providers.specs.Providers.{listed, entryOf}
 use Rattle.books.specs.Packed.{soundBytes}
-use Rattle.scan.specs.Sound.{rowsIn, itself, soundnessOf}
+use Rattle.scan.specs.Sound.{rowsIn}
+use Rattle.lines.specs.Lines.{lineBy, soundnessIn}
 use Rattle.scan.specs.declared.Soundness.the-variants.{Sound}
 use Rattle.tray.specs.Tray.{placesIn}
 use Rattle.engine.specs.Event.{tableAfter}
@@ -53,7 +54,7 @@ module _ (p b : List ℕ) (most : ℕ) (y : List ℕ) where
   -- Well-formed records, sound books, R of 0 to 7, a tray of 64, and a sound table with as many free rows as records.
   pub record Lent (es : List (List ℕ)) (t : List ℕ) (used : ℕ) : Type 0 where
     pub bytes : Bytes t
-    pub table : soundnessOf t ≡ Sound used
+    pub table : soundnessIn b t ≡ Sound used
     pub free : used + length es ≤ rowsIn t
     pub formed : All (λ (e : List ℕ). isRecord (readEvent e) ≡ true) es
     pub providers : listed (map entryOf p) .sound ≡ true
@@ -61,18 +62,18 @@ module _ (p b : List ℕ) (most : ℕ) (y : List ℕ) where
     pub retries : most ≤ 7
     pub places : 64 ≤ placesIn y
 
-  -- the same final bytes, the same outcome for each record, and for each system and number the same messages in the same order
+  -- the same final bytes, the same outcome for each record, and for each system and line the same messages in the same order
   pub record SameBytes (ns : List ℕ) (es : List (List ℕ)) (t : List ℕ) : Type 0 where
     pub tables : tableAtEnd (reorder ns es) t ≡ tableAtEnd es t
     pub outs : numbersIn (reorder ns es) t ≡ reorder ns (numbersIn es t)
-    pub mail : (local : Bool) (s n : ℕ) → mailOf local s n (messagesIn (reorder ns es) t) ≡ mailOf local s n (messagesIn es t)
+    pub mail : (local : Bool) (s n : ℕ)
+        → mailOf (lineBy b) local s n (messagesIn (reorder ns es) t) ≡ mailOf (lineBy b) local s n (messagesIn es t)
 
--- two records whose fields may be exchanged
-abbrev pub Exchanged : List ℕ → List ℕ → Type 0
-Exchanged e f = Exchangeable itself (fieldsIn e) (fieldsIn f)
+-- two records whose fields may be exchanged, with the lines of these books
+abbrev pub Exchanged : List ℕ → List ℕ → List ℕ → Type 0
+Exchanged b e f = Exchangeable (lineBy b) (fieldsIn e) (fieldsIn f)
 
 abbrev pub ByteDemand3 : Type 0
 ByteDemand3 =
-    (p b : List ℕ) (most : ℕ) (y : List ℕ) (ns : List ℕ) (es : List (List ℕ)) (t : List ℕ) (used : ℕ) → Lent p b most y es t used → May
-    Exchanged ns es
-    → SameBytes p b most y ns es t
+    (p b : List ℕ) (most : ℕ) (y : List ℕ) (ns : List ℕ) (es : List (List ℕ)) (t : List ℕ) (used : ℕ) → Lent p b most y es t used
+    → May (Exchanged b) ns es → SameBytes p b most y ns es t

@@ -3,6 +3,7 @@
 use mathlib.Core.Path.{_≡_}
 use Prim.Native.Nat.{ℕ, _≤_}
 use mathlib.Core.Bool.{Bool, true, cond}
+use mathlib.Core.Option.{some}
 use mathlib.Core.List.{List}
 use lib.Dec.{ltb}
 use lib.ListN.{length}
@@ -17,11 +18,19 @@ use Rattle.judge.specs.Judged.{absentIn}
 use Rattle.rules.specs.declared.Known.{Known}
 use Rattle.books.specs.Packed.{decodeBooks, soundBytes}
 use Rattle.rows.specs.Table.{decode, encode}
-use Rattle.scan.specs.Sound.{rowsIn, itself}
+use Rattle.scan.specs.Sound.{rowsIn}
+use Rattle.lines.specs.Lines.{lineBy}
+use Rattle.table.specs.Survey.{theOne}
+use Rattle.table.specs.declared.survey.Seen.{Seen}
 use Rattle.tray.specs.Tray.{putAll}
 use Rattle.outcomes.specs.declared.Answer.{Answer}
 use Rattle.model.specs.declared.Event.{Event}
+use Rattle.model.specs.declared.Version.{Version}
 use Rattle.model.specs.declared.Marks.{Marks}
+
+-- the rows of the event's line
+abbrev pub lineRows : List ℕ → Event → List Version → List Version
+lineRows b e vs = rowsOf (lineBy b) (lineBy b (e .tn .0)) vs
 
 -- what the rules see of the bytes
 abbrev pub givenTo : Marks → List ℕ → ℕ → List ℕ → Event → Given
@@ -30,16 +39,17 @@ givenTo m b most t e = record {
   most = most;
   free = ltb (length (decode t)) (rowsIn t);
   event = e;
-  rows = rowsOf itself (e .tn .0) (decode t);
+  rows = lineRows b e (decode t);
 }
 
--- what the rules are told beside the versions
-pub record KnownTo (m : Marks) (b : List ℕ) (R : ℕ) (row : Bool) (e : Event) (k : Known) : Type 0 where
+-- what the rules are told beside the versions, where `asked` is the one that the event names
+pub record KnownTo (m : Marks) (b : List ℕ) (R : ℕ) (row : Bool) (e : Event) (asked : Seen) (k : Known) : Type 0 where
   pub most : k .most ≡ R
   pub absent : k .absent ≡ absentIn m e
   pub owner : isCreate (e .kind) ≡ true → k .owner ≡ ownerOf (decodeBooks m b) (codeOf (e .tn))
   pub free : k .free ≡ row
-  pub selected : isBroadcast (e .kind) ≡ true → k .selected ≡ selectedFor (decodeBooks m b) (e .tn)
+  pub selected : isBroadcast (e .kind) ≡ true → (v : Version) → theOne asked ≡ some v
+      → k .selected ≡ selectedFor (decodeBooks m b) (v .id .tn)
 
 -- the books are sound, the event well formed, and the tray has its places
 pub record Ready (m : Marks) (b : List ℕ) (e : Event) (k : ℕ) : Type 0 where

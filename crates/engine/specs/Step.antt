@@ -10,7 +10,8 @@ use Rattle.providers.specs.Providers.{listed, entryOf}
 use Rattle.providers.specs.declared.Listed.{Listed}
 use Rattle.books.specs.Packed.{decodeBooks, soundBytes}
 use Rattle.rows.specs.Table.{decode}
-use Rattle.scan.specs.Sound.{rowsIn, soundnessOf}
+use Rattle.scan.specs.Sound.{rowsIn}
+use Rattle.lines.specs.Lines.{soundnessIn}
 use Rattle.scan.specs.declared.Soundness.{Soundness}
 use Rattle.scan.specs.declared.Soundness.the-variants.{Unsound, Sound}
 use Rattle.tray.specs.Tray.{placesIn}
@@ -24,9 +25,9 @@ abbrev pub isTable : Soundness → Bool
 isTable Unsound = false
 isTable (Sound n) = true
 
--- the bytes are a provider list, books and a table
+-- the bytes are a provider list, books, and a table that is sound with them
 abbrev pub formed : Listed → List ℕ → List ℕ → Bool
-formed l b t = isTable (soundnessOf t) && l .sound && soundBytes (l .marks) b
+formed l b t = isTable (soundnessIn b t) && l .sound && soundBytes (l .marks) b
 
 -- document 01's step of what the bytes say; where they say nothing, outcome 1
 unfoldable pub resultIn : Listed → List ℕ → ℕ → List ℕ → List ℕ → List ℕ → Result

@@ -7,13 +7,14 @@ use scan::Soundness;
 ghost use mathlib.Core.Path.{_≡_};
 ghost use mathlib.Core.Bool.{true};
 ghost use Rattle.scan.specs.Sound.{SoundTable, soundnessOf};
+ghost use Rattle.lines.specs.Lines.{soundnessIn};
 ghost use Rattle.scan.specs.declared.Soundness.the-variants.{Sound};
 ghost use Rattle.tray.specs.Tray.{placesIn};
 ghost use Rattle.engine.specs.Event.{Did};
 ghost use Rattle.checks.specs.Checks.{fitting};
 ghost use Rattle.engine.specs.Step.{resultIn, resultOf};
 
-// A record on a sound table, where all else fits.
+// A record on a table that is sound with its books, where all else fits.
 pub fn on_fitting(
     table: &mut [u8],
     n: usize,
@@ -24,7 +25,7 @@ pub fn on_fitting(
     tray: &mut [u8],
 ) -> Answer
     requires { ⌜ SoundTable (now table) n ⌝ }
-    requires { ⌜ (soundnessOf (now table) ≡ Sound n) × (fitting l (now books) most (placesIn (now tray)) ≡ true) ⌝ }
+    requires { ⌜ (soundnessIn (now books) (now table) ≡ Sound n) × (fitting l (now books) most (placesIn (now tray)) ≡ true) ⌝ }
     ensures { λ r. ⌜ Did (resultIn l (now (books .entry)) most (now (event .entry)) (now (table .entry)) (now (tray .entry))) (now (table .entry)) (now (tray .entry)) (now (table .exit)) (now (tray .exit)) r ⌝ }
 {
     let said = record::read(event);
@@ -37,7 +38,7 @@ pub fn on_fitting(
     }
 }
 
-// A step on a sound table.
+// A step on a table that its scan finds sound: the lines need sound books.
 fn on_table(
     table: &mut [u8],
     n: usize,
@@ -54,6 +55,12 @@ fn on_table(
     let places = tray::places(tray);
     let sound = checks::fit(l, books, most, places);
     if !sound {
+        return Answer {
+            outcome: 1,
+            count: 0,
+        };
+    }
+    if !lines::sound(books, table, n) {
         return Answer {
             outcome: 1,
             count: 0,

@@ -29,6 +29,7 @@ pub mod Concurring
 pub mod Asking
 pub mod Effects
 pub mod Owned
+pub mod Partners
 pub mod Entries
 pub mod Cells
 pub mod Stages

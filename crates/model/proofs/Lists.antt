@@ -107,6 +107,10 @@ keep-append p (x ∷ xs) t = go (p x) refl (keep-append p xs t)
     go false e ih = rw e ih
 
 -- nothing is left where nothing passes
+pub keep-same : {A : Type 0} (p q : A → Bool) (l : List A) → ((a : A) → p a ≡ q a) → keep p l ≡ keep q l
+keep-same p q [] h = refl
+keep-same p q (a ∷ l) h = rw (h a, keep-same p q l h)
+
 pub keep-none : {A : Type 0} (p : A → Bool) (P : A → Type 0) (l : List A) → All P l → ((a : A) → P a → p a ≡ false) → keep p l ≡ []
 keep-none p P [] none f = refl
 keep-none p P (x ∷ xs) (with h hs) f = rw (f x h) (keep-none p P xs hs f)

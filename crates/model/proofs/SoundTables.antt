@@ -1,6 +1,6 @@
 -- A sound table as a test and as facts; and every step leaves one. [V12]
 -- Assumes nothing.
-use mathlib.Core.Path.{_≡_, refl, subst}
+use mathlib.Core.Path.{_≡_, refl, sym, ap, _∙_, subst}
 use Prim.Native.Nat.{ℕ, _+_, _≤_, _<_, Ordering, Ordering·lt, Ordering·eq, Ordering·gt}
 use mathlib.Core.Bool.{Bool, true, false, cond}
 use mathlib.Core.List.{List, [], _∷_}
@@ -8,10 +8,10 @@ use mathlib.Core.Option.{Option, none as nothing, some}
 use lib.Dec.{leb, ltb}
 use lib.ListN.{length, getD}
 use native.Mathlib.Omega.{arith}
-use borrow.Author.Tests.{leb-true, le-leb, ltb-true, not-false}
-use Rattle.model.specs.Basics.{all, All, none, with}
+use borrow.Author.Tests.{eqb-true, eq-eqb, leb-true, le-leb, ltb-true, not-false}
+use Rattle.model.specs.Basics.{all, keep, All, none, with}
 use Rattle.model.specs.Books.{soundRetries}
-use Rattle.model.specs.Table.{order, sel, Change, put, rowsOf, changes}
+use Rattle.model.specs.Table.{order, sel, Change, put, inLine, rowsOf, changes}
 use Rattle.model.specs.Sound.{soundVersion, oneEach, numbered, noneTwice, soundLine, above, rising, soundLines, soundTable, count, live, sends, worked}
 use Rattle.model.specs.Record.{isCreate, wellFormed}
 use Rattle.model.specs.Outcomes.{isDone, createOrder}
@@ -27,7 +27,7 @@ use Rattle.model.proofs.TableLaws.{Under, Rising, adds, length-changes}
 use Rattle.model.proofs.Apart.{stepBy, rows-rows}
 use Rattle.model.proofs.Locality.{ruleIn, local, adds-settles}
 use Rattle.model.proofs.SoundRows.{Row, row-of, of-row}
-use Rattle.model.proofs.SoundLines.{Line, Distinct, first-none, distinct-changes, distinct-add}
+use Rattle.model.proofs.SoundLines.{Line, Distinct, count-cons, first-none, distinct-changes, distinct-add}
 use Rattle.model.proofs.Numbered.{with-number}
 use Rattle.model.proofs.SoundLaws.{Sound, sound-after}
 use Rattle.model.proofs.Ways.{by-test, by-way, by-worked, by-kind, by-order}
@@ -171,6 +171,40 @@ unfolding soundTable
 says-table line rows t s =
     conj-all (tableClauses line rows t)
     (with (le-leb rows 4096 (s .few)) (with (le-leb (length t) rows (s .held)) (with (says-rising t (s .sound .rising)) (with (true-all soundVersion (say-rows t (s .sound .rows))) (with (say-lines line t (λ l. (s .sound .lines l, s .sound .numbers l))) none)))))
+
+-- ---- a table that is sound by its lines is sound by its TNs
+
+count-sub : (p q r : Version → Bool) (t : List Version) → ((v : Version) → q v ≡ true → r v ≡ true) → count p (keep q t) ≤ count p (keep r t)
+count-sub p q r [] h = omega arith
+count-sub p q r (x ∷ xs) h = go (q x) refl (r x) refl (count-sub p q r xs h)
+  where
+    go : (a : Bool) → q x ≡ a → (b : Bool) → r x ≡ b → count p (keep q xs) ≤ count p (keep r xs)
+        → count p (keep q (x ∷ xs)) ≤ count p (keep r (x ∷ xs))
+    go true e true f ih = rw (e, f) (omega (arith, count-cons p x (keep q xs), count-cons p x (keep r xs), ih))
+    go true e false f ih = clash (sym f ∙ h x e)
+    go false e true f ih = rw (e, f) (omega (arith, count-cons p x (keep r xs), ih))
+    go false e false f ih = rw (e, f) ih
+
+pub sound-narrow : (line : ℕ → ℕ) (rows : ℕ) (t : List Version) → SoundIn line rows t → SoundIn (λ (n : ℕ). n) rows t
+sound-narrow line rows t s = record {
+  few = s .few;
+  held = s .held;
+  sound = record {
+    rising = s .sound .rising;
+    rows = s .sound .rows;
+    lines = λ n. record {
+      lives = omega (arith, within n live, s .sound .lines (line n) .lives);
+      sends = omega (arith, within n sends, s .sound .lines (line n) .sends);
+      works = omega (arith, within n worked, s .sound .lines (line n) .works);
+    };
+    numbers = λ n. record { once = λ m. omega (arith, within n (numbered m), s .sound .numbers (line n) .once m) };
+  };
+}
+  where
+    within : (n : ℕ) (p : Version → Bool) → count p (rowsOf (λ (m : ℕ). m) n t) ≤ count p (rowsOf line (line n) t)
+    within n p =
+        count-sub p (λ (v : Version). inLine (λ (m : ℕ). m) n (v .id)) (λ (v : Version). inLine line (line n) (v .id)) t
+        (λ v q. eq-eqb (line (v .id .tn .0)) (line n) (ap line (eqb-true (v .id .tn .0) n q)))
 
 -- ---- a row is added only where there is a free one
 

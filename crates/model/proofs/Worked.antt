@@ -9,7 +9,7 @@ use mathlib.Core.List.{List, [], _∷_, _++_, map}
 use Rattle.systems.specs.Set.{member, maskOf, meet, count as size}
 use Rattle.model.specs.Answers.{again, moved, heard, askedAgain, answers as answered}
 use Rattle.model.specs.Basics.{every, none, with}
-use Rattle.model.specs.Books.{ownerOf, partnerOf, filters, soundMarks, soundCodes, soundFilters, soundSplits, soundBooks}
+use Rattle.model.specs.Books.{ownerOf, partnerOf, filters, soundMarks, soundCodes, soundFilters, soundSplits, soundBooks, lineIn}
 use Rattle.model.specs.Broadcast.{askedFor, opened, broadcasts}
 use Rattle.model.specs.Changes.{newModified, oldModified, cancelled, acknowledged, ownCancel, resolved, windowTurned, windowMarked, windowSpent, windowRuns}
 use Rattle.model.specs.Closing.{closeTo, closed, retired, retires, closingTold, settled, settles, settlingTold}
@@ -319,7 +319,7 @@ pub record Instance : Type 0 where
 -- ---- the statements
 
 computed : (allPass examples ≡ true) × (passes listing ≡ true) × (allPass slips ≡ true) × (allPass dueDates ≡ true)
-unfolding accepted acknowledged again anotherDue answered apart askedAgain askedFor broadcasts busy busyWith cancelled castInRange causeFits classOf closeTo closed closingTold concurred creates currentFor early every exhausted filters fits fitsBits freshVersion full gridRule heard inRange kindFits manages members moved newModified newWhole noneTwice notCurrent octal oldModified oldWhole oneEach opened order ownCancel ownerOf partnerOf resolved retired retires retriesFit retriesInRange rule selectedFor setsApart settled settles settlingTold sidesNeeded skipped soundBooks soundCodes soundFilters soundLine soundLines soundMarks soundSplits soundTable soundVersion standingOf step unawaited unfit unready unsound used wellFormed windowMarked windowRuns windowSpent windowTurned withOctal withUsed member maskOf meet size examples listing slips dueDates
+unfolding accepted acknowledged again anotherDue answered apart askedAgain askedFor broadcasts busy busyWith cancelled castInRange causeFits classOf closeTo closed closingTold concurred creates currentFor early every exhausted filters fits fitsBits freshVersion full gridRule heard inRange kindFits lineIn manages members moved newModified newWhole noneTwice notCurrent octal oldModified oldWhole oneEach opened order ownCancel ownerOf partnerOf resolved retired retires retriesFit retriesInRange rule selectedFor setsApart settled settles settlingTold sidesNeeded skipped soundBooks soundCodes soundFilters soundLine soundLines soundMarks soundSplits soundTable soundVersion standingOf step unawaited unfit unready unsound used wellFormed windowMarked windowRuns windowSpent windowTurned withOctal withUsed member maskOf meet size examples listing slips dueDates
 computed = (refl, refl, refl, refl)
 
 pub worked-examples : allPass examples ≡ true
@@ -335,7 +335,7 @@ pub dates-shown : allPass dueDates ≡ true
 dates-shown = computed .3
 
 pub an-instance : Instance
-unfolding accepted acknowledged again anotherDue answered apart askedAgain askedFor broadcasts busy busyWith cancelled castInRange causeFits classOf closeTo closed closingTold concurred creates currentFor early every exhausted filters fits fitsBits freshVersion full gridRule heard inRange kindFits manages members moved newModified newWhole noneTwice notCurrent octal oldModified oldWhole oneEach opened order ownCancel ownerOf partnerOf resolved retired retires retriesFit retriesInRange rule selectedFor setsApart settled settles settlingTold sidesNeeded skipped soundBooks soundCodes soundFilters soundLine soundLines soundMarks soundSplits soundTable soundVersion standingOf step unawaited unfit unready unsound used wellFormed windowMarked windowRuns windowSpent windowTurned withOctal withUsed member maskOf meet size exchanged
+unfolding accepted acknowledged again anotherDue answered apart askedAgain askedFor broadcasts busy busyWith cancelled castInRange causeFits classOf closeTo closed closingTold concurred creates currentFor early every exhausted filters fits fitsBits freshVersion full gridRule heard inRange kindFits lineIn manages members moved newModified newWhole noneTwice notCurrent octal oldModified oldWhole oneEach opened order ownCancel ownerOf partnerOf resolved retired retires retriesFit retriesInRange rule selectedFor setsApart settled settles settlingTold sidesNeeded skipped soundBooks soundCodes soundFilters soundLine soundLines soundMarks soundSplits soundTable soundVersion standingOf step unawaited unfit unready unsound used wellFormed windowMarked windowRuns windowSpent windowTurned withOctal withUsed member maskOf meet size exchanged
 an-instance = record {
   premises = record { sound = refl; free = omega arith; formed = with refl (with refl (with refl none)) };
   may = (

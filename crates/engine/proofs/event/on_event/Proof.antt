@@ -1,17 +1,16 @@
 -- `engine::event::on_event` meets its contract: s is the start, f the survey, k what the books say, d the verdict.
 -- Assumes nothing.
-use Rattle.engine.proofs.Deciding.{tn-small, surveyed-for, decide-asks, may-apply, may-deliver, did}
+use Rattle.books.specs.Given.{sound-length, sound-splits}
+use Rattle.engine.proofs.Deciding.{tn-small, decide-asks, may-apply, may-deliver, did}
 use borrow.Author.Needs.{needs}
 use Rattle.engine.proofs.event.on_event.Statement.{statement}
 use Rattle.engine.proofs.event.on_event.Tie as tie
 
-is-create-requires : tie.Need-is-create-requires
-is-create-requires c κs = search needs
-
-number-requires : tie.Need-number-requires
-number-requires c κs =
-    let s = c .before .before .before .before .before .before in
-    (s .pre .0, tn-small (s .args .e) (s .pre .1 .0 .formed))
+surveyed-requires : tie.Need-surveyed-requires
+surveyed-requires c κs =
+    let s = c .before .before .before .before in
+    let r = s .pre .1 .0 in
+    (s .pre .0, (sound-length _ _ (r .sound), sound-splits _ _ (r .sound), tn-small (s .args .e) (r .formed)))
 
 known-requires : tie.Need-known-requires
 known-requires c κs = search needs
@@ -20,21 +19,19 @@ decide-requires : tie.Need-decide-requires
 decide-requires c κs =
     let k = c in
     let f = k .before in
-    let s = f .before .before .before .before .before .before .before in
-    let g = surveyed-for _ _ _ _ _ _ (f .before .is-create .ensures) (f .number .ensures) in
-    decide-asks (s .args .marks) _ (s .args .most) _ _ (s .args .e) _ (s .pre .0) (s .pre .1 .0) (s .pre .1 .1)
-    (f .number .result) (k .known .result) g (k .known .ensures)
+    let s = f .before .before .before .before .before in
+    decide-asks (s .args .marks) _ (s .args .most) _ _ (s .args .e) _ (s .pre .0) (s .pre .1 .2) (s .pre .1 .0) (s .pre .1 .1)
+    (f .surveyed .result) (k .known .result) (f .surveyed .ensures) (k .known .ensures)
 
 apply-requires : tie.Need-apply-requires
 apply-requires c κs =
     let d = c .before in
     let k = d .before in
     let f = k .before in
-    let s = f .before .before .before .before .before .before .before in
-    let g = surveyed-for _ _ _ _ _ _ (f .before .is-create .ensures) (f .number .ensures) in (
+    let s = f .before .before .before .before .before in (
       s .pre .0,
-      may-apply (s .args .marks) _ (s .args .most) _ _ (s .args .e) _ (s .pre .0) (s .pre .1 .0) (s .pre .1 .1)
-          (f .number .result) (k .known .result) g (k .known .ensures) (d .decide .result) (d .decide .ensures),
+      may-apply (s .args .marks) _ (s .args .most) _ _ (s .args .e) _ (s .pre .0) (s .pre .1 .2) (s .pre .1 .0) (s .pre .1 .1)
+          (f .surveyed .result) (k .known .result) (f .surveyed .ensures) (k .known .ensures) (d .decide .result) (d .decide .ensures),
     )
 
 deliver-requires : tie.Need-deliver-requires
@@ -42,10 +39,9 @@ deliver-requires c κs =
     let d = c .before .before .before .before .before in
     let k = d .before in
     let f = k .before in
-    let s = f .before .before .before .before .before .before .before in
-    let g = surveyed-for _ _ _ _ _ _ (f .before .is-create .ensures) (f .number .ensures) in
-    may-deliver (s .args .marks) _ (s .args .most) _ _ (s .args .e) _ (s .pre .0) (s .pre .1 .0) (s .pre .1 .1)
-    (f .number .result) (k .known .result) g (k .known .ensures) (d .decide .result) (d .decide .ensures)
+    let s = f .before .before .before .before .before in
+    may-deliver (s .args .marks) _ (s .args .most) _ _ (s .args .e) _ (s .pre .0) (s .pre .1 .2) (s .pre .1 .0) (s .pre .1 .1)
+    (f .surveyed .result) (k .known .result) (f .surveyed .ensures) (k .known .ensures) (d .decide .result) (d .decide .ensures)
 
 answered-requires : tie.Need-answered-requires
 answered-requires c κs = search needs
@@ -63,18 +59,16 @@ returns c =
     let d = a .before .before in
     let k = d .before in
     let f = k .before in
-    let s = f .before .before .before .before .before .before .before in
-    let g = surveyed-for _ _ _ _ _ _ (f .before .is-create .ensures) (f .number .ensures) in
-    did (s .args .marks) _ (s .args .most) _ _ (s .args .e) _ (s .pre .0) (s .pre .1 .0) (s .pre .1 .1)
-    (f .number .result) (k .known .result) g (k .known .ensures) (d .decide .result) (d .decide .ensures) _ _ _ _ _
+    let s = f .before .before .before .before .before in
+    did (s .args .marks) _ (s .args .most) _ _ (s .args .e) _ (s .pre .0) (s .pre .1 .2) (s .pre .1 .0) (s .pre .1 .1)
+    (f .surveyed .result) (k .known .result) (f .surveyed .ensures) (k .known .ensures) (d .decide .result) (d .decide .ensures) _ _ _ _ _
     (a .apply .ensures) (y .deliver .ensures) (c .answered .ensures)
 
 pub on-event-spec : {M : Type 1} → statement M
 on-event-spec =
     tie.close
     (tie.spec
-    is-create-requires
-    number-requires
+    surveyed-requires
     known-requires
     decide-requires
     apply-requires

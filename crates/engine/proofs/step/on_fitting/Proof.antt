@@ -1,6 +1,6 @@
 use denote.Ref.{now}
 use mathlib.Core.Path.{refl, sym, _∙_}
-use Rattle.engine.proofs.Stepping.{fit-ready, fit-rule, fit-malformed, did-is, did-malformed}
+use Rattle.engine.proofs.Stepping.{fit-all, fit-rule, fit-malformed, did-is, did-malformed}
 use borrow.Author.Needs.{needs}
 use Rattle.engine.proofs.step.on_fitting.Statement.{statement}
 use Rattle.engine.proofs.step.on_fitting.Tie as tie
@@ -15,7 +15,7 @@ on-event-requires : tie.Need-on-event-requires
 on-event-requires c κs =
     let s = c .before .before .before .before .before .before .before .before .before .before in (
       s .pre .0,
-      fit-ready (s .args .l) (now (s .args .books)) (s .args .most) (now (s .args .event)) (now (s .args .table))
+      fit-all (s .args .l) (now (s .args .books)) (s .args .most) (now (s .args .event)) (now (s .args .table))
           (now (s .args .tray)) _ (s .pre .0) (s .pre .1 .0) (s .pre .1 .1) _
           (sym (c .before .before .before .before .before .read .ensures) ∙ c .before .before .before .said .given .1),
     )
