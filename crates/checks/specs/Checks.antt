@@ -8,13 +8,22 @@ use Rattle.model.specs.Step.{PLACES}
 use Rattle.providers.specs.Providers.{listed, entryOf}
 use Rattle.providers.specs.declared.Listed.{Listed}
 use Rattle.books.specs.Packed.{soundBytes}
+use Rattle.lines.specs.Lines.{soundnessIn}
 use Rattle.scan.specs.declared.Soundness.{Soundness}
 use Rattle.scan.specs.declared.Soundness.the-variants.{Unsound, Sound}
 use Rattle.outcomes.specs.declared.Answer.{Answer}
 
--- the provider list and the books are sound, R is 0 to 7, and the tray has its places
-abbrev pub fitting : Listed → List ℕ → ℕ → ℕ → Bool
-fitting l b most places = ((l .sound && soundBytes (l .marks) b) && leb most 7) && leb PLACES places
+-- the provider list and the books are sound
+abbrev pub booksFit : Listed → List ℕ → Bool
+booksFit l b = l .sound && soundBytes (l .marks) b
+
+-- What a table is with the provider list and the books that it is lent with: unsound where one of the three is. [O2, A3.5]
+unfoldable pub soundnessLent : Listed → List ℕ → List ℕ → Soundness
+soundnessLent l b t = cond (booksFit l b) (soundnessIn b t) Unsound
+
+-- R is 0 to 7, and the tray has its places
+abbrev pub fitting : ℕ → ℕ → Bool
+fitting most places = leb most 7 && leb PLACES places
 
 -- outcome 0 and the used rows, or outcome 1 [T2, O2]
 abbrev pub checkedTable : Soundness → Answer

@@ -36,7 +36,8 @@ use Rattle.rows.specs.Table.{decode, encode}
 use Rattle.scan.specs.Sound.{rowsIn, itself}
 use Rattle.scan.proofs.Meant.{sound-says}
 use Rattle.lines.specs.Lines.{lineBy}
-use Rattle.lines.proofs.Meaning.{in-scan, table-lines, lines-table, says-sound-in}
+use Rattle.lines.proofs.Meaning.{table-lines, lines-table, says-sound-in}
+use Rattle.checks.proofs.Lending.{lent-says, says-lent}
 use Rattle.table.proofs.Steps.{says-again, rows-again}
 use Rattle.tray.specs.Tray.{placesIn}
 use Rattle.engine.specs.Event.{tableAfter}
@@ -110,7 +111,7 @@ module _ (p b : List ℕ) (most : ℕ) (y : List ℕ) (rows : ℕ) where
 
       pub at : (e : List ℕ) → isRecord (readEvent e) ≡ true → resultOf p b most e (encode vs rows) y ≡ stepOf S (fieldsIn e) vs
       unfolding resultIn
-      at e f = rw (says-sound-in b vs rows lined, hl, hb, record-is e f, says-again vs rows sound, rows-again vs rows sound)
+      at e f = rw (says-lent L b (encode vs rows) hl hb, says-sound-in b vs rows lined, record-is e f, says-again vs rows sound, rows-again vs rows sound)
 
       pub next : (e : List ℕ) → isRecord (readEvent e) ≡ true
           → tableBy p b most y e (encode vs rows) ≡ encode (after (stepOf S) (fieldsIn e) vs) rows
@@ -181,18 +182,18 @@ length-map (e ∷ es) = ap suc (length-map es)
 
 pub byte-reordering : ByteDemand3
 byte-reordering p b most y ns es t used l may =
-    let k = in-scan b t used (l .table) in
-    let s = sound-says t used (l .bytes) (k .0) in
+    let k = lent-says (listed (map entryOf p)) b t used (l .table) in
+    let s = sound-says t used (l .bytes) (k .scanned) in
     let marks = listed (map entryOf p) .marks in
     let S : Setting = record { books = decodeBooks marks b; most = most; rows = rowsIn t; places = placesIn y } in
     let h : unsound S (decode t) ≡ false = of-sane S (decode t) (record {
-      table = table-says (lineBy b) (rowsIn t) (decode t) (table-lines (lineBy b) (rowsIn t) (decode t) (s .sound) (k .1));
-      books = sound-books marks b (l .books);
+      table = table-says (lineBy b) (rowsIn t) (decode t) (table-lines (lineBy b) (rowsIn t) (decode t) (s .sound) (k .lines));
+      books = sound-books marks b (k .books);
       retries = le-leb most 7 (l .retries);
       places = le-leb 64 (placesIn y) (l .places);
     }) in
     subst (λ (x : List ℕ). SameBytes p b most y ns es x) (sym (s .is))
-    (same-bytes p b most y (rowsIn t) (l .providers) (l .books) ns es (decode t) h (l .formed)
+    (same-bytes p b most y (rowsIn t) (k .listed) (k .books) ns es (decode t) h (l .formed)
     (demand3 S ns (map fieldsIn es) (decode t)
     (record {
       sound = h;

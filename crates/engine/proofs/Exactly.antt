@@ -17,13 +17,11 @@ use Rattle.model.specs.declared.Reading.the-variants.{Record, Malformed}
 use Rattle.model.specs.declared.Outcome.the-variants as outcome
 use Rattle.packing.specs.Layout.{readEvent}
 use Rattle.providers.specs.declared.Listed.{Listed}
-use Rattle.lines.specs.Lines.{soundnessIn}
-use Rattle.lines.proofs.Meaning.{in-scan}
+use Rattle.checks.proofs.Lending.{lent-table}
 use Rattle.scan.specs.declared.Soundness.{Soundness}
 use Rattle.scan.specs.declared.Soundness.the-variants.{Unsound, Sound}
-use Rattle.scan.proofs.Meant.{sound-says}
 use Rattle.tray.specs.Tray.{placesIn}
-use Rattle.checks.specs.Checks.{fitting}
+use Rattle.checks.specs.Checks.{fitting, soundnessLent}
 use Rattle.engine.specs.Event.{givenTo}
 use Rattle.engine.specs.Step.{isTable, resultIn}
 use Rattle.engine.specs.Demands.{isRecord}
@@ -35,35 +33,34 @@ module _ (l : Listed) (b : List ℕ) (most : ℕ) (xs t y : List ℕ) where
 
   -- table, provider list and books are sound, R is 0 to 7, and the tray has 64 whole places
   abbrev pub lentSound : Bool
-  lentSound = isTable (soundnessIn b t) && fitting l b most (placesIn y)
+  lentSound = isTable (soundnessLent l b t) && fitting most (placesIn y)
 
   module _ (bytes : Bytes t) where
     pub unlent : lentSound ≡ false → X ≡ refuse outcome.Unsound
-    unlent h = go (soundnessIn b t) refl
+    unlent h = go (soundnessLent l b t) refl
       where
-        go : (s : Soundness) → soundnessIn b t ≡ s → X ≡ refuse outcome.Unsound
+        go : (s : Soundness) → soundnessLent l b t ≡ s → X ≡ refuse outcome.Unsound
         go Unsound q = no-table l b most xs t y q
         go (Sound n) q =
-            let k = in-scan b t n q .0 in
-            unfit-refused l b most xs t y n (sound-says t n bytes k) k (rw q at h)
+            unfit-refused l b most xs t y n (lent-table l b t n bytes q) q (rw q at h)
 
     module _ (h : lentSound ≡ true) where
       lent-malformed : readEvent xs ≡ Malformed → X ≡ refuse outcome.Malformed
-      lent-malformed r = go (soundnessIn b t) refl
+      lent-malformed r = go (soundnessLent l b t) refl
         where
-          go : (s : Soundness) → soundnessIn b t ≡ s → X ≡ refuse outcome.Malformed
+          go : (s : Soundness) → soundnessLent l b t ≡ s → X ≡ refuse outcome.Malformed
           go Unsound q = clash (rw q at h)
-          go (Sound n) q = fit-malformed l b most xs t y n (sound-says t n bytes (in-scan b t n q .0)) q (rw q at h) r
+          go (Sound n) q = fit-malformed l b most xs t y n (lent-table l b t n bytes q) q (rw q at h) r
 
       lent-ruled : (k : ℕ) → ((g : Given) → numberOf (rule g .out) ≡ k → ⊥) → (e : Event) → readEvent xs ≡ Record e → numberOf (X .out) ≡ k
           → ⊥
-      lent-ruled k never e r z = go (soundnessIn b t) refl
+      lent-ruled k never e r z = go (soundnessLent l b t) refl
         where
-          go : (s : Soundness) → soundnessIn b t ≡ s → ⊥
+          go : (s : Soundness) → soundnessLent l b t ≡ s → ⊥
           go Unsound q = clash (rw q at h)
           go (Sound n) q =
               never (givenTo (l .marks) b most t e)
-              (sym (ap (λ (x : Result). numberOf (x .out)) (fit-rule l b most xs t y n (sound-says t n bytes (in-scan b t n q .0)) q (rw q at h) e r)) ∙ z)
+              (sym (ap (λ (x : Result). numberOf (x .out)) (fit-rule l b most xs t y n (lent-table l b t n bytes q) q (rw q at h) e r)) ∙ z)
 
     -- outcome 1
     pub one-lent : numberOf (X .out) ≡ 1 → lentSound ≡ false

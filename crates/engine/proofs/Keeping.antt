@@ -26,15 +26,18 @@ use Rattle.rows.specs.Table.{decode, encode}
 use Rattle.scan.specs.Sound.{rowsIn, itself, SoundTable}
 use Rattle.lines.specs.Lines.{lineBy, soundnessIn}
 use Rattle.lines.proofs.Meaning.{lines-table, says-sound-in}
-use Rattle.scan.specs.declared.Soundness.the-variants.{Sound}
+use Rattle.scan.specs.declared.Soundness.{Soundness}
+use Rattle.scan.specs.declared.Soundness.the-variants.{Unsound, Sound}
+use Rattle.checks.specs.Checks.{soundnessLent}
+use Rattle.checks.proofs.Lending.{lent-says, says-lent}
 use Rattle.table.proofs.Steps.{says-again, rows-again, sound-again}
 use Rattle.engine.specs.Event.{tableAfter}
-use Rattle.engine.specs.Step.{settingOf, formed, resultIn}
+use Rattle.engine.specs.Step.{settingOf, isTable, formed, resultIn}
 
--- u is a table that is sound with the books b, and has as many rows as t
-pub record Again (b t u : List ℕ) : Type 0 where
+-- u is a table that is sound with provider list and books, and has as many rows as t
+pub record Again (l : Listed) (b t u : List ℕ) : Type 0 where
   pub table : SoundTable u (length (decode u))
-  pub scanned : soundnessIn b u ≡ Sound (length (decode u))
+  pub scanned : soundnessLent l b u ≡ Sound (length (decode u))
   pub rows : rowsIn u ≡ rowsIn t
 
 -- what holds of the result of a step on t
@@ -80,16 +83,33 @@ module _ (l : Listed) (b : List ℕ) (most : ℕ) (e t y : List ℕ) where
   abbrev pub usedAfter : ℕ
   usedAfter = length (changes (X .does) (decode t))
 
-  pub done-scanned : isDone (X .out) ≡ true → soundnessIn b (tableAfter X t) ≡ Sound usedAfter
+  -- what is done was formed
+  done-formed : isDone (X .out) ≡ true → formed l b t ≡ true
+  unfolding resultIn
+  done-formed h = go (formed l b t) refl
+    where
+      go : (f : Bool) → formed l b t ≡ f → formed l b t ≡ true
+      go true q = q
+      go false q = clash (rw q at h)
+
+  lent-in : isDone (X .out) ≡ true → (u : List ℕ) → soundnessLent l b u ≡ soundnessIn b u
+  lent-in h u = go (soundnessLent l b t) refl (done-formed h)
+    where
+      go : (s : Soundness) → soundnessLent l b t ≡ s → isTable s ≡ true → soundnessLent l b u ≡ soundnessIn b u
+      go Unsound q k = clash k
+      go (Sound n) q k = let p = lent-says l b t n q in says-lent l b u (p .listed) (p .books)
+
+  pub done-scanned : isDone (X .out) ≡ true → soundnessLent l b (tableAfter X t) ≡ Sound usedAfter
   done-scanned h =
-      ap (λ (d : Bool). soundnessIn b (cond d (encode (changes (X .does) (decode t)) (rowsIn t)) t)) h
+      lent-in h (tableAfter X t)
+      ∙ ap (λ (d : Bool). soundnessIn b (cond d (encode (changes (X .does) (decode t)) (rowsIn t)) t)) h
       ∙ says-sound-in b (changes (X .does) (decode t)) (rowsIn t) (kept .sound h)
 
   -- On a sound table a step leaves a sound table of as many rows, whatever its outcome.
-  pub again : (n : ℕ) → SoundTable t n → soundnessIn b t ≡ Sound n → Again b t (tableAfter X t)
+  pub again : (n : ℕ) → SoundTable t n → soundnessLent l b t ≡ Sound n → Again l b t (tableAfter X t)
   again n s q = go (isDone (X .out)) refl
     where
-      go : (d : Bool) → isDone (X .out) ≡ d → Again b t (tableAfter X t)
+      go : (d : Bool) → isDone (X .out) ≡ d → Again l b t (tableAfter X t)
       go true h =
           let vs : List Version = changes (X .does) (decode t) in
           let k : soundTable itself (rowsIn t) vs ≡ true = lines-table (lineBy b) (rowsIn t) vs (kept .sound h) .0 in
@@ -97,7 +117,7 @@ module _ (l : Listed) (b : List ℕ) (most : ℕ) (e t y : List ℕ) where
           rw h
           (record {
             table = subst (λ (m : ℕ). SoundTable (encode vs (rowsIn t)) m) (sym c) (sound-again vs (rowsIn t) k);
-            scanned = says-sound-in b vs (rowsIn t) (kept .sound h) ∙ ap Sound (sym c);
+            scanned = lent-in h (encode vs (rowsIn t)) ∙ says-sound-in b vs (rowsIn t) (kept .sound h) ∙ ap Sound (sym c);
             rows = rows-again vs (rowsIn t) k;
           })
       go false h =

@@ -11,11 +11,10 @@ use Rattle.model.proofs.Lists.{clash}
 use Rattle.octets.specs.Octets.{Bytes}
 use Rattle.packing.specs.Layout.{readEvent}
 use Rattle.providers.specs.declared.Listed.{Listed}
-use Rattle.lines.specs.Lines.{soundnessIn}
-use Rattle.lines.proofs.Meaning.{in-scan}
+use Rattle.checks.specs.Checks.{soundnessLent}
+use Rattle.checks.proofs.Lending.{lent-says, lent-table}
 use Rattle.scan.specs.declared.Soundness.{Soundness}
 use Rattle.scan.specs.declared.Soundness.the-variants.{Unsound, Sound}
-use Rattle.scan.proofs.Meant.{sound-says}
 use Rattle.tray.specs.Tray.{Fits}
 use Rattle.engine.specs.Event.{givenTo}
 use Rattle.engine.specs.Step.{resultIn}
@@ -36,20 +35,20 @@ module _ (l : Listed) (b : List ℕ) (most : ℕ) (xs t y : List ℕ) (bytes : B
 
   -- Whatever is lent, the messages of a step fit their places.
   pub sent-fits : All Fits (X .sent)
-  sent-fits = go (lentSound l b most xs t y) refl (readEvent xs) refl (soundnessIn b t) refl
+  sent-fits = go (lentSound l b most xs t y) refl (readEvent xs) refl (soundnessLent l b t) refl
     where
       refused : (o : Outcome) → X ≡ refuse o → All Fits (X .sent)
       refused o q = subst (λ (x : Result). All Fits (x .sent)) (sym q) none
 
-      go : (d : Bool) → lentSound l b most xs t y ≡ d → (x : Reading) → readEvent xs ≡ x → (s : Soundness) → soundnessIn b t ≡ s
+      go : (d : Bool) → lentSound l b most xs t y ≡ d → (x : Reading) → readEvent xs ≡ x → (s : Soundness) → soundnessLent l b t ≡ s
           → All Fits (X .sent)
       go false q x r s k = refused outcome.Unsound (unlent l b most xs t y bytes q)
       go true q x r Unsound k = clash (rw k at q)
       go true q Malformed r (Sound n) k =
-          refused outcome.Malformed (fit-malformed l b most xs t y n (sound-says t n bytes (in-scan b t n k .0)) k (rw k at q) r)
+          refused outcome.Malformed (fit-malformed l b most xs t y n (lent-table l b t n bytes k) k (rw k at q) r)
       go true q (Record e) r (Sound n) k =
-          let st = sound-says t n bytes (in-scan b t n k .0) in
-          let ls = in-scan b t n k .1 in
+          let st = lent-table l b t n bytes k in
+          let ls = lent-says l b t n k .lines in
           let p = fit-ready l b most xs t y n st k (rw k at q) e r in
           subst (λ (x : Result). All Fits (x .sent)) (sym (fit-rule l b most xs t y n st k (rw k at q) e r))
           (rule-mail (givenTo (l .marks) b most t e) (ground (l .marks) b most t n e (p .1) st ls (p .0 .formed) .rows) (p .0 .formed)

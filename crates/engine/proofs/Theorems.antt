@@ -9,7 +9,7 @@ use Rattle.model.specs.Given.{Result}
 use Rattle.model.specs.Outcomes.{isDone}
 use Rattle.model.specs.declared.Message.{Message}
 use Rattle.providers.specs.Providers.{listed, entryOf}
-use Rattle.lines.specs.Lines.{soundnessIn}
+use Rattle.checks.specs.Checks.{soundnessLent}
 use Rattle.scan.specs.declared.Soundness.the-variants.{Sound}
 use Rattle.tray.specs.Tray.{placesIn, putAll, readPlaces}
 use Rattle.tray.specs.Laws.{tray-reads}
@@ -45,9 +45,9 @@ module _ (p b : List ℕ) (most : ℕ) (e t y u z : List ℕ) (a : Answer) (d : 
       (d .table ∙ rw r, d .tray ∙ ap (putAll y 0) n, d .count ∙ ap length n)
 
   -- Every outcome 0 leaves a table that the soundness check accepts. [V12]
-  pub done-accepted : a .outcome ≡ 0 → soundnessIn b u ≡ Sound (usedAfter (listed (map entryOf p)) b most e t y)
+  pub done-accepted : a .outcome ≡ 0 → soundnessLent (listed (map entryOf p)) b u ≡ Sound (usedAfter (listed (map entryOf p)) b most e t y)
   done-accepted h =
-      ap (soundnessIn b) (d .table) ∙ done-scanned (listed (map entryOf p)) b most e t y
+      ap (soundnessLent (listed (map entryOf p)) b) (d .table) ∙ done-scanned (listed (map entryOf p)) b most e t y
       (ap isDone (zero-done (resultOf p b most e t y .out) (sym (d .outcome) ∙ h)))
 
   -- Outcome 1 exactly when table, provider list or books are unsound, R is above 7, or the tray has fewer than 64 whole places. [O2]

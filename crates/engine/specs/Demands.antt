@@ -13,9 +13,9 @@ use Rattle.model.specs.Outcomes.{numberOf}
 use Rattle.model.specs.Exchange.{Exchangeable, May, reorder, mailOf}
 use Rattle.packing.specs.Layout.{widths, eventOf, readEvent}
 use Rattle.providers.specs.Providers.{listed, entryOf}
-use Rattle.books.specs.Packed.{soundBytes}
 use Rattle.scan.specs.Sound.{rowsIn}
-use Rattle.lines.specs.Lines.{lineBy, soundnessIn}
+use Rattle.lines.specs.Lines.{lineBy}
+use Rattle.checks.specs.Checks.{soundnessLent}
 use Rattle.scan.specs.declared.Soundness.the-variants.{Sound}
 use Rattle.tray.specs.Tray.{placesIn}
 use Rattle.engine.specs.Event.{tableAfter}
@@ -51,14 +51,12 @@ module _ (p b : List ℕ) (most : ℕ) (y : List ℕ) where
   messagesIn [] t = []
   messagesIn (e ∷ es) t = resultOf p b most e t y .sent ++ messagesIn es (tableBy e t)
 
-  -- Well-formed records, sound books, R of 0 to 7, a tray of 64, and a sound table with as many free rows as records.
+  -- Well-formed records, R of 0 to 7, a tray of 64, and a table that is sound with provider list and books, with as many free rows as records.
   pub record Lent (es : List (List ℕ)) (t : List ℕ) (used : ℕ) : Type 0 where
     pub bytes : Bytes t
-    pub table : soundnessIn b t ≡ Sound used
+    pub table : soundnessLent (listed (map entryOf p)) b t ≡ Sound used
     pub free : used + length es ≤ rowsIn t
     pub formed : All (λ (e : List ℕ). isRecord (readEvent e) ≡ true) es
-    pub providers : listed (map entryOf p) .sound ≡ true
-    pub books : soundBytes (listed (map entryOf p) .marks) b ≡ true
     pub retries : most ≤ 7
     pub places : 64 ≤ placesIn y
 

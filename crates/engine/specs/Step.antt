@@ -1,17 +1,17 @@
 -- One step over bytes: what the call answers, whatever the bytes are. [O1, O2, O9]
 -- Assumes nothing.
 use Prim.Native.Nat.{ℕ}
-use mathlib.Core.Bool.{Bool, true, false, cond, _&&_}
+use mathlib.Core.Bool.{Bool, true, false, cond}
 use mathlib.Core.List.{List, map}
 use Rattle.model.specs.Given.{Result, refuse}
 use Rattle.model.specs.Step.{Setting, step}
 use Rattle.packing.specs.Layout.{readEvent}
 use Rattle.providers.specs.Providers.{listed, entryOf}
 use Rattle.providers.specs.declared.Listed.{Listed}
-use Rattle.books.specs.Packed.{decodeBooks, soundBytes}
+use Rattle.books.specs.Packed.{decodeBooks}
 use Rattle.rows.specs.Table.{decode}
 use Rattle.scan.specs.Sound.{rowsIn}
-use Rattle.lines.specs.Lines.{soundnessIn}
+use Rattle.checks.specs.Checks.{soundnessLent}
 use Rattle.scan.specs.declared.Soundness.{Soundness}
 use Rattle.scan.specs.declared.Soundness.the-variants.{Unsound, Sound}
 use Rattle.tray.specs.Tray.{placesIn}
@@ -27,7 +27,7 @@ isTable (Sound n) = true
 
 -- the bytes are a provider list, books, and a table that is sound with them
 abbrev pub formed : Listed → List ℕ → List ℕ → Bool
-formed l b t = isTable (soundnessIn b t) && l .sound && soundBytes (l .marks) b
+formed l b t = isTable (soundnessLent l b t)
 
 -- document 01's step of what the bytes say; where they say nothing, outcome 1
 unfoldable pub resultIn : Listed → List ℕ → ℕ → List ℕ → List ℕ → List ℕ → Result

@@ -6,12 +6,11 @@ use providers::Listed;
 use scan::Soundness;
 ghost use mathlib.Core.Path.{_≡_};
 ghost use mathlib.Core.Bool.{true};
-ghost use Rattle.scan.specs.Sound.{SoundTable, soundnessOf};
-ghost use Rattle.lines.specs.Lines.{soundnessIn};
+ghost use Rattle.scan.specs.Sound.{SoundTable};
 ghost use Rattle.scan.specs.declared.Soundness.the-variants.{Sound};
 ghost use Rattle.tray.specs.Tray.{placesIn};
 ghost use Rattle.engine.specs.Event.{Did};
-ghost use Rattle.checks.specs.Checks.{fitting};
+ghost use Rattle.checks.specs.Checks.{fitting, soundnessLent};
 ghost use Rattle.engine.specs.Step.{resultIn, resultOf};
 
 // A record on a table that is sound with its books, where all else fits.
@@ -25,7 +24,7 @@ pub fn on_fitting(
     tray: &mut [u8],
 ) -> Answer
     requires { ⌜ SoundTable (now table) n ⌝ }
-    requires { ⌜ (soundnessIn (now books) (now table) ≡ Sound n) × (fitting l (now books) most (placesIn (now tray)) ≡ true) ⌝ }
+    requires { ⌜ (soundnessLent l (now books) (now table) ≡ Sound n) × (fitting most (placesIn (now tray)) ≡ true) ⌝ }
     ensures { λ r. ⌜ Did (resultIn l (now (books .entry)) most (now (event .entry)) (now (table .entry)) (now (tray .entry))) (now (table .entry)) (now (tray .entry)) (now (table .exit)) (now (tray .exit)) r ⌝ }
 {
     let said = record::read(event);
@@ -38,7 +37,7 @@ pub fn on_fitting(
     }
 }
 
-// A step on a table that its scan finds sound: the lines need sound books.
+// A step on a sound table.
 fn on_table(
     table: &mut [u8],
     n: usize,
@@ -49,18 +48,12 @@ fn on_table(
     tray: &mut [u8],
 ) -> Answer
     requires { ⌜ SoundTable (now table) n ⌝ }
-    requires { ⌜ soundnessOf (now table) ≡ Sound n ⌝ }
+    requires { ⌜ soundnessLent l (now books) (now table) ≡ Sound n ⌝ }
     ensures { λ r. ⌜ Did (resultIn l (now (books .entry)) most (now (event .entry)) (now (table .entry)) (now (tray .entry))) (now (table .entry)) (now (tray .entry)) (now (table .exit)) (now (tray .exit)) r ⌝ }
 {
     let places = tray::places(tray);
-    let sound = checks::fit(l, books, most, places);
-    if !sound {
-        return Answer {
-            outcome: 1,
-            count: 0,
-        };
-    }
-    if !lines::sound(books, table, n) {
+    let fits = checks::fit(most, places);
+    if !fits {
         return Answer {
             outcome: 1,
             count: 0,
@@ -80,7 +73,7 @@ pub fn step_listed(
 ) -> Answer
     ensures { λ r. ⌜ Did (resultIn l (now (books .entry)) most (now (event .entry)) (now (table .entry)) (now (tray .entry))) (now (table .entry)) (now (tray .entry)) (now (table .exit)) (now (tray .exit)) r ⌝ }
 {
-    let verdict = scan::verdict(table);
+    let verdict = checks::lent(l, books, table);
     match verdict {
         Soundness::Sound { used } => on_table(table, used, l, books, most, event, tray),
         Soundness::Unsound => Answer {

@@ -20,7 +20,7 @@ use Rattle.scan.proofs.Meant.{says-sound}
 use Rattle.table.proofs.Steps.{says-again}
 use Rattle.lines.specs.Lines.{lined, lineBy, soundnessIn}
 
-sound-no : (n : ℕ) {X : Type 0} → Unsound ≡ Sound n → X
+pub sound-no : (n : ℕ) {X : Type 0} → Unsound ≡ Sound n → X
 sound-no n e = absurd (let z : _≡_ {A = ℕ} 0 1 = cc in omega arith)
 
 -- both the scan and the lines

@@ -21,14 +21,20 @@ returns c =
 mul-t7 : tie.Need-mul-t7
 mul-t7 c =
     let s = c .before .before .before .before in
-    omega (arith, twin-small _ (s .pre .1 .0) (s .args .tn) (s .pre .1 .1) _
-    (partner-split (s .args .books .now) (s .args .tn) _ _ (c .before .before .code-of .ensures) (c .before .partner .ensures)))
+    omega (
+      arith,
+      twin-small _ (s .pre .1 .0) (s .args .tn) (s .pre .1 .1) _
+          (partner-split (s .args .books .now) (s .args .tn) _ _ (c .before .before .code-of .ensures) (c .before .partner .ensures)),
+    )
 
 add-t9 : tie.Need-add-t9
 add-t9 c =
     let s = c .before .before .before .before .before in
-    omega (arith, twin-small _ (s .pre .1 .0) (s .args .tn) (s .pre .1 .1) _
-    (partner-split (s .args .books .now) (s .args .tn) _ _ (c .before .before .before .code-of .ensures) (c .before .before .partner .ensures)))
+    omega (
+      arith,
+      twin-small _ (s .pre .1 .0) (s .args .tn) (s .pre .1 .1) _
+          (partner-split (s .args .books .now) (s .args .tn) _ _ (c .before .before .before .code-of .ensures) (c .before .before .partner .ensures)),
+    )
 
 returns-2 : tie.Need-returns-2
 returns-2 c =
