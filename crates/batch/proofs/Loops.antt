@@ -5,7 +5,7 @@ use Prim.Native.Nat.{ℕ, suc, _+_, _-_, _*_, _/_, _≤_, _<_}
 use native.Mathlib.Nat.{mul-comm}
 use native.Mathlib.Omega.{arith}
 use native.Mathlib.Numerals.{add-one}
-use mathlib.Core.Bool.{Bool, true, false, cond, _&&_}
+use mathlib.Core.Bool.{Bool, true, false, cond}
 use mathlib.Core.List.{List, [], _∷_}
 use lib.Dec.{leb}
 use lib.ListN.{length, take, drop, getD, length-drop, drop-of-length-le}
@@ -13,13 +13,12 @@ use lib.Seq.{drop-cons}
 use borrow.Author.Tests.{lt-leb, le-leb}
 use Rattle.model.specs.Given.{Result}
 use Rattle.providers.specs.declared.Listed.{Listed}
-use Rattle.books.specs.Packed.{soundBytes}
 use Rattle.rows.specs.Chunks.{chunks}
 use Rattle.rows.proofs.Pieces.{chunks-length, getD-chunks}
-use Rattle.scan.specs.Sound.{SoundTable, soundnessOf}
+use Rattle.scan.specs.Sound.{SoundTable}
 use Rattle.scan.specs.declared.Soundness.the-variants.{Sound}
 use Rattle.tray.specs.Tray.{placesIn}
-use Rattle.checks.specs.Checks.{fitting}
+use Rattle.checks.specs.Checks.{fitting, soundnessLent}
 use Rattle.engine.proofs.Keeping.{result-few}
 use Rattle.model.proofs.Lists.{and-l}
 use Rattle.batch.specs.declared.Ran.{Ran}
@@ -30,10 +29,10 @@ places-are : (y : List ℕ) (m : ℕ) → placesIn (drop (24 * m) y) ≡ (length
 places-are y m = ap (λ (n : ℕ). n / 24) (length-drop (24 * m) y)
 
 -- where 64 places are left behind the messages, the rest fits as before
-pub fits-behind : (l : Listed) (b : List ℕ) (most : ℕ) (y₀ y : List ℕ) (m : ℕ) → fitting l b most (placesIn y₀) ≡ true → 64 ≤ (length y - 24 * m) / 24
-    → fitting l b most (placesIn (drop (24 * m) y)) ≡ true
-fits-behind l b most y₀ y m h r =
-    rw (and-l ((l .sound && soundBytes (l .marks) b) && leb most 7) (leb 64 (placesIn y₀)) h)
+pub fits-behind : (most : ℕ) (y₀ y : List ℕ) (m : ℕ) → fitting most (placesIn y₀) ≡ true → 64 ≤ (length y - 24 * m) / 24
+    → fitting most (placesIn (drop (24 * m) y)) ≡ true
+fits-behind most y₀ y m h r =
+    rw (and-l (leb most 7) (leb 64 (placesIn y₀)) h)
     (le-leb 64 (placesIn (drop (24 * m) y)) (subst (λ (n : ℕ). 64 ≤ n) (sym (places-are y m)) r))
 
 -- two bytes for each event
@@ -46,7 +45,7 @@ module _ (l : Listed) (b : List ℕ) (most : ℕ) (es t₀ y₀ o₀ : List ℕ)
 
   pub record Here (t y o : List ℕ) (used m i : ℕ) : Type 0 where
     pub sound : SoundTable t used
-    pub scanned : soundnessOf t ≡ Sound used
+    pub scanned : soundnessLent l b t ≡ Sound used
     pub turns : i ≤ length es / RECORD
     pub room : 24 * m ≤ length y
     pub table-same : length t ≡ length t₀
@@ -54,7 +53,7 @@ module _ (l : Listed) (b : List ℕ) (most : ℕ) (es t₀ y₀ o₀ : List ℕ)
     pub outs-same : length o ≡ length o₀
     pub rest : steps l b most (drop i (recordsIn es)) (record { table = t; tray = y; outs = o; events = i; messages = m }) ≡ whole
 
-  pub here-first : (n : ℕ) → SoundTable t₀ n → soundnessOf t₀ ≡ Sound n → Here t₀ y₀ o₀ n 0 0
+  pub here-first : (n : ℕ) → SoundTable t₀ n → soundnessLent l b t₀ ≡ Sound n → Here t₀ y₀ o₀ n 0 0
   here-first n s q = record {
     sound = s;
     scanned = q;
@@ -106,7 +105,7 @@ module _ (l : Listed) (b : List ℕ) (most : ℕ) (es t₀ y₀ o₀ : List ℕ)
     -- one record more
     pub here-next : (v z u : List ℕ) (used′ m′ : ℕ) → i < length es / RECORD → 64 ≤ (length y - 24 * m) / 24
         → length v ≡ length t → length z ≡ length y → length u ≡ length o
-        → Turned (resultAt l b most E S) S (record { table = v; tray = z; outs = u; events = suc i; messages = m′ }) used′
+        → Turned l b (resultAt l b most E S) S (record { table = v; tray = z; outs = u; events = suc i; messages = m′ }) used′
         → Here v z u used′ m′ (i + 1)
     unfolding steps
     here-next v z u used′ m′ c f lt ly lo d =

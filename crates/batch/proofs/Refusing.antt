@@ -10,12 +10,10 @@ use lib.ListN.{length}
 use borrow.Author.Tests.{eq-eqb, ne-eqb, le-leb, lt-leb}
 use Rattle.model.proofs.Lists.{clash}
 use Rattle.providers.specs.declared.Listed.{Listed}
-use Rattle.books.specs.Packed.{soundBytes}
-use Rattle.scan.specs.Sound.{soundnessOf}
 use Rattle.scan.specs.declared.Soundness.{Soundness}
 use Rattle.scan.specs.declared.Soundness.the-variants.{Unsound, Sound}
 use Rattle.tray.specs.Tray.{placesIn}
-use Rattle.checks.specs.Checks.{fitting}
+use Rattle.checks.specs.Checks.{fitting, soundnessLent}
 use Rattle.engine.specs.Step.{formed}
 use Rattle.batch.specs.declared.Ran.{Ran}
 use Rattle.batch.specs.Batch.{RECORD, recordsIn, Stand, steps, begin, refusal, leaves, refusedWith, Went}
@@ -33,33 +31,25 @@ module _ (l : Listed) (b : List ℕ) (most : ℕ) (es t y o : List ℕ) where
       subst (λ (a : Ran). Went N (leaves l b most es t y o) t y o a) (sym e)
       (rw (q, ne-eqb k 0 z) (record { said = refl; done = refl; told = refl; left = refl; laid = refl; noted = refl }))
 
-  pub no-table : soundnessOf t ≡ Unsound → N ≡ 1
+  pub no-table : soundnessLent l b t ≡ Unsound → N ≡ 1
   unfolding refusal
   no-table h = rw h
 
-  module _ (n : ℕ) (h : soundnessOf t ≡ Sound n) where
+  module _ (n : ℕ) (h : soundnessLent l b t ≡ Sound n) where
     abbrev room : Bool
     room = leb (2 * (length es / RECORD)) (length o)
 
-    is-fitting : N ≡ cond (fitting l b most (placesIn y) && room) (cond (eqb (length es % RECORD) 0) 0 2) 1
+    is-fitting : N ≡ cond (fitting most (placesIn y) && room) (cond (eqb (length es % RECORD) 0) 0 2) 1
     unfolding refusal
-    is-fitting = go (l .sound) refl (soundBytes (l .marks) b) refl (leb most 7) refl (leb 64 (placesIn y)) refl
-      where
-        go : (x : Bool) → l .sound ≡ x → (k : Bool) → soundBytes (l .marks) b ≡ k → (r : Bool) → leb most 7 ≡ r → (w : Bool) → leb 64 (placesIn y) ≡ w
-            → N ≡ cond (fitting l b most (placesIn y) && room) (cond (eqb (length es % RECORD) 0) 0 2) 1
-        go false a k c r d w f = rw (h, a)
-        go true a false c r d w f = rw (h, a, c)
-        go true a true c false d w f = rw (h, a, c, d)
-        go true a true c true d false f = rw (h, a, c, d, f)
-        go true a true c true d true f = rw (h, a, c, d, f)
+    is-fitting = rw h
 
-    pub unfit : fitting l b most (placesIn y) ≡ false → N ≡ 1
+    pub unfit : fitting most (placesIn y) ≡ false → N ≡ 1
     unfit f = is-fitting ∙ rw f
 
-    pub short : fitting l b most (placesIn y) ≡ true → length o < 2 * (length es / RECORD) → N ≡ 1
+    pub short : fitting most (placesIn y) ≡ true → length o < 2 * (length es / RECORD) → N ≡ 1
     short f s = is-fitting ∙ rw (f, lt-leb (2 * (length es / RECORD)) (length o) s)
 
-    module _ (f : fitting l b most (placesIn y) ≡ true) (s : 2 * (length es / RECORD) ≤ length o) where
+    module _ (f : fitting most (placesIn y) ≡ true) (s : 2 * (length es / RECORD) ≤ length o) where
       pub partly : (length es % RECORD ≡ 0 → ⊥) → N ≡ 2
       partly q = is-fitting ∙ rw (f, le-leb (2 * (length es / RECORD)) (length o) s, ne-eqb (length es % RECORD) 0 q)
 

@@ -12,13 +12,13 @@ use Rattle.model.specs.Given.{Result}
 use Rattle.model.proofs.Outcomes.{number-small}
 use Rattle.providers.specs.declared.Listed.{Listed}
 use Rattle.rows.specs.Table.{decode}
-use Rattle.scan.specs.Sound.{SoundTable, soundnessOf, rowsIn}
+use Rattle.scan.specs.Sound.{SoundTable, rowsIn}
 use Rattle.scan.specs.declared.Soundness.the-variants.{Sound}
 use Rattle.tray.specs.Tray.{placesIn, putAll}
 use Rattle.outcomes.specs.Answered.{noted}
 use Rattle.outcomes.specs.declared.Answer.{Answer}
 use Rattle.engine.specs.Event.{Did, tableAfter}
-use Rattle.checks.specs.Checks.{fitting}
+use Rattle.checks.specs.Checks.{fitting, soundnessLent}
 use Rattle.engine.specs.Step.{resultIn}
 use Rattle.engine.proofs.Keeping.{Again, again, result-few}
 use Rattle.batch.specs.Batch.{Stand, after, resultAt, Turned}
@@ -52,12 +52,12 @@ module _ (l : Listed) (b : List ℕ) (most : ℕ) (e t y o : List ℕ) (i m : �
     pub count-small : a .count ≤ 63
     count-small = subst (λ (n : ℕ). n ≤ 63) (sym (did .count)) (result-few l b most e t (drop k y))
 
-    module _ (n : ℕ) (st : SoundTable t n) (sc : soundnessOf t ≡ Sound n) where
-      pub stays : Again t u
-      stays = subst (λ (v : List ℕ). Again t v) (sym (did .table)) (again l b most e t (drop k y) n st sc)
+    module _ (n : ℕ) (st : SoundTable t n) (sc : soundnessLent l b t ≡ Sound n) where
+      pub stays : Again l b t u
+      stays = subst (λ (v : List ℕ). Again l b t v) (sym (did .table)) (again l b most e t (drop k y) n st sc)
 
       pub turned : (used : ℕ) → used ≡ length (decode u) → k ≤ length y → (outs : List ℕ) → outs ≡ noted o i a
-          → Turned X S (record { table = u; tray = putMid k (length y - k) y z; outs = outs; events = suc i; messages = m + a .count }) used
+          → Turned l b X S (record { table = u; tray = putMid k (length y - k) y z; outs = outs; events = suc i; messages = m + a .count }) used
       turned used q h outs p = record {
         is = λ j. record {
           table = did .table j;
@@ -71,6 +71,6 @@ module _ (l : Listed) (b : List ℕ) (most : ℕ) (e t y o : List ℕ) (i m : �
       }
 
       pub turned-at : (used : ℕ) → used ≡ length (decode u) → k ≤ length y → (outs : List ℕ) → outs ≡ noted o i a → (s : Stand) → s ≡ S
-          → Turned (resultAt l b most e s) s (record { table = u; tray = putMid k (length y - k) y z; outs = outs; events = suc i; messages = m + a .count }) used
+          → Turned l b (resultAt l b most e s) s (record { table = u; tray = putMid k (length y - k) y z; outs = outs; events = suc i; messages = m + a .count }) used
       turned-at used q h outs p s w =
-          subst (λ (v : Stand). Turned (resultAt l b most e v) v (record { table = u; tray = putMid k (length y - k) y z; outs = outs; events = suc i; messages = m + a .count }) used) (sym w) (turned used q h outs p)
+          subst (λ (v : Stand). Turned l b (resultAt l b most e v) v (record { table = u; tray = putMid k (length y - k) y z; outs = outs; events = suc i; messages = m + a .count }) used) (sym w) (turned used q h outs p)

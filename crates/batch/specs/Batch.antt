@@ -12,11 +12,11 @@ use Rattle.model.specs.Step.{PLACES}
 use Rattle.providers.specs.Providers.{listed, entryOf}
 use Rattle.providers.specs.declared.Listed.{Listed}
 use Rattle.rows.specs.Chunks.{chunks}
-use Rattle.scan.specs.Sound.{SoundTable, soundnessOf}
+use Rattle.scan.specs.Sound.{SoundTable}
 use Rattle.scan.specs.declared.Soundness.the-variants.{Sound}
 use Rattle.tray.specs.Tray.{messageSize, placesIn, putAll}
 use Rattle.engine.specs.Event.{tableAfter}
-use Rattle.checks.specs.Checks.{fitting}
+use Rattle.checks.specs.Checks.{soundnessLent}
 use Rattle.engine.specs.Step.{formed, resultIn}
 use Rattle.batch.specs.declared.Ran.{Ran}
 
@@ -86,7 +86,7 @@ pub record Went (n : ℕ) (s : Stand) (after trayAfter outsAfter : List ℕ) (r 
   pub noted : outsAfter ≡ s .outs
 
 -- one event more, and the table is sound again
-pub record Turned (x : Result) (s u : Stand) (used : ℕ) : Type 0 where
+pub record Turned (l : Listed) (b : List ℕ) (x : Result) (s u : Stand) (used : ℕ) : Type 0 where
   pub is : u ≡ after x s
   pub sound : SoundTable (u .table) used
-  pub scanned : soundnessOf (u .table) ≡ Sound used
+  pub scanned : soundnessLent l b (u .table) ≡ Sound used

@@ -7,10 +7,10 @@ ghost use mathlib.Core.List.{map};
 ghost use Prim.Native.Nat.{_+_, _*_, _/_, _%_, _≤_, suc};
 ghost use lib.ListN.{length, drop};
 ghost use Rattle.providers.specs.Providers.{listed, entryOf};
-ghost use Rattle.scan.specs.Sound.{SoundTable, soundnessOf};
+ghost use Rattle.scan.specs.Sound.{SoundTable};
 ghost use Rattle.scan.specs.declared.Soundness.the-variants.{Sound};
 ghost use Rattle.tray.specs.Tray.{messageSize, placesIn};
-ghost use Rattle.checks.specs.Checks.{fitting};
+ghost use Rattle.checks.specs.Checks.{fitting, soundnessLent};
 ghost use Rattle.batch.specs.Batch.{RECORD, recordsIn, Stand, resultAt, steps, begin, refusal, leaves, refusedWith, Went, Turned};
 
 const RECORD: usize = 24;
@@ -47,8 +47,8 @@ fn one(
     i: usize,
 ) -> Turn
     requires { ⌜ SoundTable (now table) n ⌝ }
-    requires { ⌜ (soundnessOf (now table) ≡ Sound n) × (fitting l (now books) most (placesIn (drop (messageSize * messages) (now tray))) ≡ true) × (2 * i + 2 ≤ length (now outs)) × (messageSize * messages ≤ length (now tray)) ⌝ }
-    ensures { λ r. ⌜ ((s : Stand) → s ≡ record { table = now (table .entry); tray = now (tray .entry); outs = now (outs .entry); events = i; messages = messages } → Turned (resultAt l (now (books .entry)) most (now (event .entry)) s) s (record { table = now (table .exit); tray = now (tray .exit); outs = now (outs .exit); events = suc i; messages = r .messages }) (r .used)) ⌝ }
+    requires { ⌜ (soundnessLent l (now books) (now table) ≡ Sound n) × (fitting most (placesIn (drop (messageSize * messages) (now tray))) ≡ true) × (2 * i + 2 ≤ length (now outs)) × (messageSize * messages ≤ length (now tray)) ⌝ }
+    ensures { λ r. ⌜ ((s : Stand) → s ≡ record { table = now (table .entry); tray = now (tray .entry); outs = now (outs .entry); events = i; messages = messages } → Turned l (now (books .entry)) (resultAt l (now (books .entry)) most (now (event .entry)) s) s (record { table = now (table .exit); tray = now (tray .exit); outs = now (outs .exit); events = suc i; messages = r .messages }) (r .used)) ⌝ }
 {
     let at = MESSAGE * messages;
     let a = engine::step::on_fitting(table, n, l, books, most, event, &mut tray[at..]);
@@ -72,7 +72,7 @@ fn all(
     outs: &mut [u8],
 ) -> Ran
     requires { ⌜ SoundTable (now table) n ⌝ }
-    requires { ⌜ (soundnessOf (now table) ≡ Sound n) × (fitting l (now books) most (placesIn (now tray)) ≡ true) × (2 * (length (now events) / RECORD) ≤ length (now outs)) ⌝ }
+    requires { ⌜ (soundnessLent l (now books) (now table) ≡ Sound n) × (fitting most (placesIn (now tray)) ≡ true) × (2 * (length (now events) / RECORD) ≤ length (now outs)) ⌝ }
     ensures { λ r. ⌜ Went 0 (steps l (now (books .entry)) most (recordsIn (now (events .entry))) (begin (now (table .entry)) (now (tray .entry)) (now (outs .entry)))) (now (table .exit)) (now (tray .exit)) (now (outs .exit)) r ⌝ }
 {
     let count = events.len() / RECORD;
@@ -134,11 +134,11 @@ fn on_table(
     outs: &mut [u8],
 ) -> Ran
     requires { ⌜ SoundTable (now table) n ⌝ }
-    requires { ⌜ soundnessOf (now table) ≡ Sound n ⌝ }
+    requires { ⌜ soundnessLent l (now books) (now table) ≡ Sound n ⌝ }
     ensures { λ r. ⌜ Went (refusal l (now (books .entry)) most (now (events .entry)) (now (table .entry)) (now (tray .entry)) (now (outs .entry))) (leaves l (now (books .entry)) most (now (events .entry)) (now (table .entry)) (now (tray .entry)) (now (outs .entry))) (now (table .exit)) (now (tray .exit)) (now (outs .exit)) r ⌝ }
 {
     let places = tray::places(tray);
-    let fits = checks::fit(l, books, most, places);
+    let fits = checks::fit(most, places);
     if !fits {
         return refused(1);
     }
@@ -164,7 +164,7 @@ pub fn run(
     ensures { λ r. ⌜ Went (refusal (listed (map entryOf (now (providers .entry)))) (now (books .entry)) most (now (events .entry)) (now (table .entry)) (now (tray .entry)) (now (outs .entry))) (leaves (listed (map entryOf (now (providers .entry)))) (now (books .entry)) most (now (events .entry)) (now (table .entry)) (now (tray .entry)) (now (outs .entry))) (now (table .exit)) (now (tray .exit)) (now (outs .exit)) r ⌝ }
 {
     let l = providers::marks_of_bytes(providers);
-    let verdict = scan::verdict(table);
+    let verdict = checks::lent(l, books, table);
     match verdict {
         Soundness::Sound { used } => on_table(table, used, l, books, most, events, tray, outs),
         Soundness::Unsound => refused(1),

@@ -1,5 +1,5 @@
 -- What the first word of a row says of its version. Assumes nothing.
-use mathlib.Core.Path.{_≡_, ap, _∙_, sym}
+use mathlib.Core.Path.{_≡_, ap, _∙_}
 use mathlib.Core.List.{List, []}
 use Prim.Native.Nat.{ℕ, _/_, _%_, _<_}
 use native.Mathlib.Omega.{arith}
@@ -12,7 +12,6 @@ use Rattle.scan.specs.Sound.{SoundTable}
 use Rattle.table.specs.Find.{keyFor}
 use Rattle.table.specs.Survey.{versionAt}
 use Rattle.table.proofs.Sought.{sound-load}
-use Rattle.lines.specs.declared.Held.{Held}
 use Rattle.lines.specs.Pairs.{heldOf, heldIn}
 
 pub record Tells (w : ℕ) (v : Version) : Type 0 where

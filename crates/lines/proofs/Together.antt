@@ -2,19 +2,18 @@
 -- Assumes nothing.
 use mathlib.Core.Path.{_≡_, refl, sym, ap, ap₂, _∙_, subst}
 use mathlib.Core.Bool.{Bool, true, false, not, _&&_, _||_}
-use mathlib.Core.Logic.{_⊎_, inl, inr, ⊎-elim}
-use mathlib.Core.List.{List, []}
-use Prim.Native.Nat.{ℕ, _+_, _*_, _/_, _%_, _≤_, _<_}
+use mathlib.Core.Logic.{_⊎_, ⊎-elim}
+use mathlib.Core.List.{List}
+use Prim.Native.Nat.{ℕ, _/_, _%_, _≤_, _<_}
 use native.Mathlib.Omega.{arith}
-use borrow.Author.Tests.{eq-eqb, eqb-true, eqb-false, ltb-true, ltb-false, not-true}
+use borrow.Author.Tests.{eq-eqb, eqb-true, ltb-true, ltb-false, not-true}
 use lib.Dec.{eqb, ltb}
 use lib.ListN.{length}
 use Rattle.model.specs.declared.Id.{Id}
 use Rattle.model.specs.declared.Version.{Version}
-use Rattle.model.specs.Basics.{all, implies}
-use Rattle.model.specs.Table.{rowsOf}
+use Rattle.model.specs.Basics.{implies}
 use Rattle.model.specs.Books.{Split, partnerIn, underCode, lineIn, soundSplits}
-use Rattle.model.specs.Sound.{count, live, sends, worked, soundTable}
+use Rattle.model.specs.Sound.{live, sends, worked, soundTable}
 use Rattle.model.proofs.Lists.{clash, and-l, and-r, both-true, or-off}
 use Rattle.scan.specs.Sound.{itself}
 use Rattle.scan.proofs.Counted.{tally-counts}
@@ -22,11 +21,10 @@ use Rattle.scan.proofs.Meant.{Good, table-good}
 use Rattle.table.specs.Find.{keyFor}
 use Rattle.table.specs.Survey.{versionAt}
 use Rattle.table.proofs.Changed.{rises-at}
-use Rattle.lines.specs.declared.Held.{Held}
+use Rattle.lines.proofs.Passes.{named-is}
 use Rattle.model.specs.Sound.{soundLines}
 use Rattle.lines.specs.Pairs.{heldOf, meet, nameUnder, named, lacks, spares, fits, under, pairFits, pairsFit}
-use Rattle.model.proofs.Partners.{sound-once, sound-codes, Paired, paired-line, line-paired-only, pairs-partners, partners-pairs}
-use Rattle.lines.proofs.Passes.{named-is}
+use Rattle.model.proofs.Partners.{sound-once, sound-codes, Paired, paired-line, same-line, pairs-partners, partners-pairs}
 use Rattle.lines.proofs.Twos.{all-at, at-all, parted, Clear, clear-back, AllClear, lines-clear, clear-lines}
 
 -- ---- each TN alone
@@ -142,7 +140,7 @@ module _ (xs : List Split) (s : soundSplits xs ≡ true) (t : List Version) wher
 
   pairs-clear : (rows : ℕ) → Good rows t → pairsFit xs t ≡ true → AllClear (lineIn xs) t
   unfolding pairsFit
-  pairs-clear rows g e i j d h q = ⊎-elim (λ same. itself-clear rows t g i j d h same) by-pair (line-paired-only xs s (tnAt i) (tnAt j) q)
+  pairs-clear rows g e i j d h q = ⊎-elim (λ same. itself-clear rows t g i j d h same) by-pair (same-line xs s (tnAt i) (tnAt j) q)
     where
       by-pair : Paired xs (tnAt i) (tnAt j) → Clear (versionAt t i) (versionAt t j)
       by-pair p =

@@ -1,8 +1,8 @@
 -- The pass over the places of the split list: what a place decides, and what it leaves to the places behind it; and that sound books have sound
 -- splits. Assumes nothing.
-use mathlib.Core.Path.{_≡_, refl, sym, ap, _∙_, subst}
+use mathlib.Core.Path.{_≡_, sym, ap, _∙_, subst}
 use mathlib.Core.Bool.{Bool, true, false, _&&_}
-use mathlib.Core.List.{List, [], _∷_, map}
+use mathlib.Core.List.{List, _∷_, map}
 use Prim.Native.Nat.{ℕ, _+_, _/_, _%_, _^_, _≤_, _<_}
 use Rattle.model.specs.declared.Marks.{Marks}
 use Rattle.model.specs.declared.Version.{Version}

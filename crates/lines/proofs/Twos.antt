@@ -1,18 +1,18 @@
 -- The rows of a line may stand together exactly where no two of them have what a line may have once. Assumes nothing.
-use mathlib.Core.Path.{_≡_, refl, sym, ap, ap₂, _∙_, subst}
-use mathlib.Core.Bool.{Bool, true, false, cond, not, _&&_}
+use mathlib.Core.Path.{_≡_, refl, sym, ap, _∙_, subst}
+use mathlib.Core.Bool.{Bool, true, false, cond, _&&_}
 use mathlib.Core.List.{List, [], _∷_}
-use Prim.Native.Nat.{ℕ, zero, suc, _+_, _≤_, _<_, zero-le, suc-le-suc}
+use Prim.Native.Nat.{ℕ, zero, suc, _≤_, _<_, zero-le, suc-le-suc}
 use native.Mathlib.Nat.{not-suc-le-zero, le-of-suc-le-suc}
 use native.Mathlib.Omega.{arith}
 use borrow.Author.Tests.{eq-eqb, eqb-true, leb-true, le-leb}
-use lib.Dec.{eqb, leb}
+use lib.Dec.{leb}
 use lib.ListN.{length, getD}
 use Rattle.model.specs.declared.Version.{Version}
 use Rattle.model.specs.Basics.{all, implies, keep, none, with}
 use Rattle.model.specs.Table.{inLine, rowsOf}
 use Rattle.model.specs.Sound.{count, live, sends, worked, numbered, oneEach, noneTwice, soundLine}
-use Rattle.model.proofs.Lists.{and-l, and-r, both-true, conj-at, conj-all, clash}
+use Rattle.model.proofs.Lists.{and-l, and-r, both-true, conj-at, conj-all}
 use Rattle.table.specs.Survey.{versionAt}
 use Rattle.model.specs.Sound.{soundLines}
 

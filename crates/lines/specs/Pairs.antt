@@ -1,6 +1,6 @@
 -- The pass over the split pairs: each version under a pair's second code beside the versions of its TN under the first. [A3.5]
 -- Assumes nothing.
-use Prim.Native.Nat.{ℕ, _/_}
+use Prim.Native.Nat.{ℕ}
 use mathlib.Core.Bool.{Bool, not, _&&_, _||_}
 use mathlib.Core.List.{List}
 use lib.Dec.{eqb}
@@ -47,6 +47,10 @@ named k v = eqb (v .id .tn .0) (k .tn .0) && eqb (v .id .number) (k .number)
 -- no version has that name
 unfoldable pub lacks : Id → List Version → Bool
 lacks k t = all (λ (v : Version). not (named k v)) t
+
+-- no version is of that number
+unfoldable pub noneOf : ℕ → List Version → Bool
+noneOf tn t = all (λ (v : Version). not (eqb (v .id .tn .0) tn)) t
 
 -- no version of that number has what h has
 unfoldable pub spares : ℕ → Held → List Version → Bool

@@ -6,19 +6,20 @@ use scan::join;
 use table::find;
 use words::ROW;
 ghost use mathlib.Core.Path.{_≡_};
-ghost use mathlib.Core.Bool.{true, not, _||_, _&&_};
+ghost use mathlib.Core.Bool.{true};
 ghost use Prim.Native.Nat.{_+_, _*_, _≤_, _<_};
 ghost use lib.ListN.{length};
-ghost use Rattle.model.specs.Books.{lineIn, soundSplits};
+ghost use Rattle.model.specs.Books.{underCode, lineIn, soundSplits};
 ghost use Rattle.words.specs.Size.{ROW};
 ghost use Rattle.words.specs.Codec.{wordsIn};
 ghost use Rattle.rows.specs.Place.{rowAt};
 ghost use Rattle.rows.specs.Table.{decode};
 ghost use Rattle.scan.specs.Sound.{SoundTable};
+ghost use Rattle.table.specs.Find.{placeIn};
 ghost use Rattle.table.specs.Survey.{versionAt};
 ghost use Rattle.books.specs.Packed.{bookBytes, splitsOf};
 ghost use Rattle.model.specs.Sound.{soundLines};
-ghost use Rattle.lines.specs.Pairs.{heldIn, meet, bare, lacks, spares, fits, noneUnder, pairFits};
+ghost use Rattle.lines.specs.Pairs.{heldIn, meet, bare, lacks, noneOf, spares, fits, noneUnder, pairFits};
 
 // What of a version its line may have once: that it is live, that it is sending, that it is worked.
 pub struct Held {
@@ -73,17 +74,45 @@ fn absent(t: &[u8], n: usize, k: Id) -> bool
     true
 }
 
-// Whether no version of the number has what h has. A number has each at most once, so that of its versions at most three are compared with
-// another's.
-fn spared(t: &[u8], n: usize, tn: Tn, h: Held) -> bool
+// The place of the first row from `from` on whose number is not below tn, or n.
+fn reach(t: &[u8], n: usize, tn: Tn, from: usize) -> usize
     requires { ⌜ SoundTable (now t) n ⌝ }
-    requires { ⌜ tn .0 < 17179869184 ⌝ }
+    requires { ⌜ from ≤ placeIn (tn .0 * 65536 + 0) (decode (now t)) ⌝ }
+    ensures { λ r. ⌜ r ≡ placeIn (tn .0 * 65536 + 0) (decode (now (t .entry))) ⌝ }
+{
+    let mut at = from;
+    while at < n {
+        if tn.0 <= head(t, at) / 1073741824 {
+            return at;
+        }
+        at += 1;
+    }
+    at
+}
+
+// Whether no version is of the number whose first place is `at`.
+fn nobody(t: &[u8], n: usize, tn: Tn, at: usize) -> bool
+    requires { ⌜ SoundTable (now t) n ⌝ }
+    requires { ⌜ at ≡ placeIn (tn .0 * 65536 + 0) (decode (now t)) ⌝ }
+    ensures { λ r. ⌜ r ≡ noneOf (tn .0) (decode (now (t .entry))) ⌝ }
+{
+    if at < n {
+        return head(t, at) / 1073741824 != tn.0;
+    }
+    true
+}
+
+// Whether no version of the number whose first place is `at` has what h has. Of another number at most three versions have any of it, so that
+// its versions are gone through at most three times.
+fn spared(t: &[u8], n: usize, tn: Tn, h: Held, at: usize) -> bool
+    requires { ⌜ SoundTable (now t) n ⌝ }
+    requires { ⌜ at ≡ placeIn (tn .0 * 65536 + 0) (decode (now t)) ⌝ }
     ensures { λ r. ⌜ r ≡ spares (tn .0) h (decode (now (t .entry))) ⌝ }
 {
     if has_none(h) {
         return true;
     }
-    let mut i = find::place(t, n, Id { tn, number: 0 });
+    let mut i = at;
     while i < n {
         let w = head(t, i);
         if w / 1073741824 != tn.0 {
@@ -97,51 +126,66 @@ fn spared(t: &[u8], n: usize, tn: Tn, h: Held) -> bool
     true
 }
 
-// Whether row i may stand in one line with the versions of its TN under the code c.
-fn fitting(t: &[u8], n: usize, c: u64, i: usize) -> bool
+// Whether row i may stand in one line with the versions of its TN under the code c, whose first place is `at`.
+fn fitting(t: &[u8], n: usize, c: u64, i: usize, at: usize) -> bool
     requires { ⌜ SoundTable (now t) n ⌝ }
     requires { ⌜ (c < 1000000) × (i < n) ⌝ }
+    requires { ⌜ at ≡ placeIn (underCode c (versionAt (decode (now t)) i .id .tn .0) * 65536 + 0) (decode (now t)) ⌝ }
     ensures { λ r. ⌜ r ≡ fits c (decode (now (t .entry))) (versionAt (decode (now (t .entry))) i) ⌝ }
 {
     let w = head(t, i);
     let tn = Tn(c * 10000 + w / 1073741824 % 10000);
+    if nobody(t, n, tn, at) {
+        return true;
+    }
     let number = (w / 16384 % 65536) as u16;
     if absent(t, n, Id { tn, number }) {
-        return spared(t, n, tn, held_of(w));
+        return spared(t, n, tn, held_of(w), at);
     }
     false
 }
 
-// Whether no row stands under the code c.
-fn unused(t: &[u8], n: usize, c: u64) -> bool
+// The place of the first row that stands under the code c or a larger one, or n.
+fn first_under(t: &[u8], n: usize, c: u64) -> usize
     requires { ⌜ SoundTable (now t) n ⌝ }
     requires { ⌜ c < 1000000 ⌝ }
-    ensures { λ r. ⌜ r ≡ noneUnder c (decode (now (t .entry))) ⌝ }
+    ensures { λ r. ⌜ r ≡ placeIn (c * 10000 * 65536 + 0) (decode (now (t .entry))) ⌝ }
 {
     let tn = Tn(c * 10000);
-    let i = find::place(t, n, Id { tn, number: 0 });
-    if i < n {
-        return head(t, i) / 1073741824 / 10000 != c;
+    find::place(t, n, Id { tn, number: 0 })
+}
+
+// Whether no row stands under the code c, whose first place is `at`.
+fn unused(t: &[u8], n: usize, c: u64, at: usize) -> bool
+    requires { ⌜ SoundTable (now t) n ⌝ }
+    requires { ⌜ at ≡ placeIn (c * 10000 * 65536 + 0) (decode (now t)) ⌝ }
+    ensures { λ r. ⌜ r ≡ noneUnder c (decode (now (t .entry))) ⌝ }
+{
+    if at < n {
+        return head(t, at) / 1073741824 / 10000 != c;
     }
     true
 }
 
-// Whether each row under the code d may stand in one line with the rows under the code c.
+// Whether each row under the code d may stand in one line with the rows under the code c: both are gone through once, side by side.
 fn pair_fits(t: &[u8], n: usize, c: u64, d: u64) -> bool
     requires { ⌜ SoundTable (now t) n ⌝ }
     requires { ⌜ (c < 1000000) × (d < 1000000) ⌝ }
     ensures { λ r. ⌜ r ≡ pairFits c d (decode (now (t .entry))) ⌝ }
 {
-    if unused(t, n, c) {
+    let mut at = first_under(t, n, c);
+    if unused(t, n, c, at) {
         return true;
     }
-    let tn = Tn(d * 10000);
-    let mut i = find::place(t, n, Id { tn, number: 0 });
+    let mut i = first_under(t, n, d);
     while i < n {
-        if head(t, i) / 1073741824 / 10000 != d {
+        let w = head(t, i);
+        if w / 1073741824 / 10000 != d {
             return true;
         }
-        if !fitting(t, n, c, i) {
+        let tn = Tn(c * 10000 + w / 1073741824 % 10000);
+        at = reach(t, n, tn, at);
+        if !fitting(t, n, c, i, at) {
             return false;
         }
         i += 1;
@@ -149,8 +193,9 @@ fn pair_fits(t: &[u8], n: usize, c: u64, d: u64) -> bool
     true
 }
 
-// Whether the rows of each line of a sound table may stand together, by the split pairs of sound books. A row of a pair's second code costs a
-// search in the table, a pair of which one code has no row at most two; a row that stands in no pair costs nothing. [A3.5]
+// Whether the rows of each line of a sound table may stand together, by the split pairs of sound books. A pair costs at most two searches and
+// one pass over the rows under its codes. Where a line has rows under both, each under the second code costs a search more, and one that is
+// live, sending or worked a look at those under the first. A row of no pair costs nothing. [A3.5]
 pub fn sound(books: &[u8], t: &[u8], n: usize) -> bool
     requires { ⌜ SoundTable (now t) n ⌝ }
     requires { ⌜ (length (now books) ≡ bookBytes) × (soundSplits (splitsOf (now books)) ≡ true) ⌝ }

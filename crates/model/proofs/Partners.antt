@@ -219,8 +219,8 @@ module _ (xs : List Split) (s : soundSplits xs ≡ true) where
       (smaller-is (a / 10000) p)
 
   -- and no others do
-  pub line-paired-only : (a b : ℕ) → lineIn xs a ≡ lineIn xs b → (a ≡ b) ⊎ Paired xs a b
-  line-paired-only a b l = go (eqb (partnerIn (a / 10000) xs) 0) (eqb (partnerIn (b / 10000) xs) 0) refl refl
+  pub same-line : (a b : ℕ) → lineIn xs a ≡ lineIn xs b → (a ≡ b) ⊎ Paired xs a b
+  same-line a b l = go (eqb (partnerIn (a / 10000) xs) 0) (eqb (partnerIn (b / 10000) xs) 0) refl refl
     where
       some : (c : ℕ) → eqb (partnerIn c xs) 0 ≡ false → 0 < partnerIn c xs
       some c e = let n : partnerIn c xs ≡ 0 → ⊥ = eqb-false _ _ e in omega arith
@@ -257,7 +257,7 @@ pub record Names (xs : List Split) (a b : ℕ) : Type 0 where
 
 module _ (xs : List Split) (s : soundSplits xs ≡ true) (a : ℕ) where
   pub names-alone : partnerIn (a / 10000) xs ≡ 0 → Names xs a a
-  names-alone z = record { line = λ m l. inl (go m (line-paired-only xs s m a l)); own = refl }
+  names-alone z = record { line = λ m l. inl (go m (same-line xs s m a l)); own = refl }
     where
       go : (m : ℕ) → (m ≡ a) ⊎ Paired xs m a → m ≡ a
       go m (inl e) = e
@@ -266,7 +266,7 @@ module _ (xs : List Split) (s : soundSplits xs ≡ true) (a : ℕ) where
           absurd (omega (arith, z, back, has-code xs s (m / 10000) (omega (arith, p .partner, p .code))))
 
   pub names-paired : (d : ℕ) → partnerIn (a / 10000) xs ≡ d → 0 < d → Names xs a (underCode d a)
-  names-paired d q h = record { line = λ m l. go m (line-paired-only xs s m a l); own = sym (paired-line xs s a (underCode d a) pair) }
+  names-paired d q h = record { line = λ m l. go m (same-line xs s m a l); own = sym (paired-line xs s a (underCode d a) pair) }
     where
       pair : Paired xs a (underCode d a)
       pair = record { partner = q ∙ (let z : d ≡ underCode d a / 10000 = omega arith in z); code = omega (arith, h); digits = omega arith }

@@ -77,7 +77,7 @@ one-requires c κs =
       h .sound,
       (
         h .scanned,
-        fits-behind (s .args .l) (now (s .args .books)) (s .args .most) (now (s .args .tray)) (c .before .before .before .before .before .before .loop .tray) (c .before .before .before .before .before .before .loop .messages) (s .pre .1 .1) (c .before .before .before .before .if1 .left),
+        fits-behind (s .args .most) (now (s .args .tray)) (c .before .before .before .before .before .before .loop .tray) (c .before .before .before .before .before .before .loop .messages) (s .pre .1 .1) (c .before .before .before .before .if1 .left),
         outs-room (c .before .before .before .before .before .before .loop .i) _ (now (s .args .outs)) (c .before .before .before .before .before .before .loop .outs) (c .before .before .before .before .before .loop-test .taken) (s .pre .1 .2) (h .outs-same),
         h .room,
       ),

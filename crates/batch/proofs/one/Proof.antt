@@ -25,7 +25,7 @@ part-on-fitting-end c = search needs
 on-fitting-requires : tie.Need-on-fitting-requires
 on-fitting-requires c κs =
     let s = c .before .before .before .before .before .before .before in
-    (s .pre .0, (s .pre .1 .0, ap (λ (w : List ℕ). fitting (s .args .l) (now (s .args .books)) (s .args .most) (placesIn w)) (part-is (now (s .args .tray)) (24 * s .args .messages)) ∙ s .pre .1 .1))
+    (s .pre .0, (s .pre .1 .0, ap (λ (w : List ℕ). fitting (s .args .most) (placesIn w)) (part-is (now (s .args .tray)) (24 * s .args .messages)) ∙ s .pre .1 .1))
 
 note-requires : tie.Need-note-requires
 note-requires c κs =

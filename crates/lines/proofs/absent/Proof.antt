@@ -1,6 +1,6 @@
 -- `lines::absent` meets its contract. Assumes nothing.
-use Prim.Native.Nat.{ℕ, _/_, _<_}
-use mathlib.Core.Path.{_≡_, sym}
+use Prim.Native.Nat.{_/_}
+use mathlib.Core.Path.{sym}
 use native.Mathlib.Omega.{arith}
 use Rattle.rows.specs.Table.{decode}
 use Rattle.lines.proofs.Heads.{tells}
@@ -34,14 +34,14 @@ returns c =
     let w = c .before .before .head in
     let h = c .before .before .before .if1 .taken in
     let g = tells (a .t .now) (a .n) (at .result) (w .result) (st .pre .0) h (w .ensures) (omega arith) in
-    absent-at (a .k) (decode (a .t .now)) (listed (a .t .now) (a .n) (st .pre .0)) (omega arith) (at .result) (at .ensures) (w .result / 16384) (g .key) (omega (arith, st .pre .0 .count, h))
+    absent-at (a .k) (omega arith) (decode (a .t .now)) (at .result) (at .ensures) (listed (a .t .now) (a .n) (st .pre .0)) (omega (arith, st .pre .0 .count, h)) (w .result / 16384) (g .key)
 
 returns-2 : tie.Need-returns-2
 returns-2 c =
     let st = c .before .before .before in
     let a = st .args in
     let at = c .before .place in
-    sym (absent-out (a .k) (decode (a .t .now)) (listed (a .t .now) (a .n) (st .pre .0)) (omega arith) (at .result) (at .ensures) (omega (arith, st .pre .0 .count, c .if1 .left)))
+    sym (absent-out (a .k) (omega arith) (decode (a .t .now)) (at .result) (at .ensures) (omega (arith, st .pre .0 .count, c .if1 .left)))
 
 pub absent-spec : {M : Type 1} → statement M
 absent-spec =

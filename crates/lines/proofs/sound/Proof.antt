@@ -1,6 +1,6 @@
 -- `lines::sound` meets its contract. The loop's invariant: the pairs that are left decide. Assumes nothing.
-use Prim.Native.Nat.{ℕ, _-_}
-use mathlib.Core.Path.{_≡_, refl, sym, _∙_}
+use Prim.Native.Nat.{_-_}
+use mathlib.Core.Path.{refl, sym, _∙_}
 use native.Mathlib.Omega.{arith}
 use borrow.Author.Tests.{not-true, not-false}
 use Rattle.rows.specs.Table.{decode}
@@ -51,7 +51,7 @@ pair-fits-requires c κs =
     let w = splitPlace (a .books .now) in
     let xs = splitsOf (a .books .now) in
     let vs = decode (a .t .now) in
-    (st .pre .0, pair-codes w splitPlaces (l .i) xs vs (l .inv) (c .before .u64-at .result) (c .before .u64-at .ensures) (c .before .before .loop-test .taken) (c .if1 .left))
+    (st .pre .0, pair-codes w splitPlaces (l .i) xs vs (l .inv) (c .before .u64-at .result) (c .before .u64-at .ensures) (omega (arith, c .before .before .loop-test .taken)) (c .if1 .left))
 
 returns-2 : tie.Need-returns-2 Inv-loop μ-loop
 returns-2 c =
@@ -61,7 +61,7 @@ returns-2 c =
     let w = splitPlace (a .books .now) in
     let xs = splitsOf (a .books .now) in
     let vs = decode (a .t .now) in
-    sym (pairs-fail w splitPlaces (l .i) xs vs (l .inv) (c .before .before .before .u64-at .result) (c .before .before .before .u64-at .ensures) (c .before .before .before .before .loop-test .taken) (c .before .before .if1 .left) (c .before .pair-fits .result) (c .before .pair-fits .ensures) (not-true _ (c .if2 .taken))) ∙ pairs-lines xs (st .pre .1 .1) vs (rowsIn (a .t .now)) (st .pre .0 .sound)
+    sym (pairs-fail w splitPlaces (l .i) xs vs (l .inv) (c .before .before .before .u64-at .result) (c .before .before .before .u64-at .ensures) (omega (arith, c .before .before .before .before .loop-test .taken)) (c .before .before .if1 .left) (c .before .pair-fits .result) (c .before .pair-fits .ensures) (not-true _ (c .if2 .taken))) ∙ pairs-lines xs (st .pre .1 .1) vs (rowsIn (a .t .now)) (st .pre .0 .sound)
 
 add-i : tie.Need-add-i Inv-loop μ-loop
 add-i c = search needs
@@ -77,7 +77,7 @@ loop-again c =
     let w = splitPlace (a .books .now) in
     let xs = splitsOf (a .books .now) in
     let vs = decode (a .t .now) in
-    pairs-on w splitPlaces (l .i) xs vs (l .inv) (c .before .before .before .u64-at .result) (c .before .before .before .u64-at .ensures) (c .before .before .before .before .loop-test .taken) (c .before .before .if1 .left) (c .before .pair-fits .result) (c .before .pair-fits .ensures) (not-false _ (c .if2 .left))
+    pairs-on w splitPlaces (l .i) xs vs (l .inv) (c .before .before .before .u64-at .result) (c .before .before .before .u64-at .ensures) (omega (arith, c .before .before .before .before .loop-test .taken)) (c .before .before .if1 .left) (c .before .pair-fits .result) (c .before .pair-fits .ensures) (not-false _ (c .if2 .left))
 
 returns-3 : tie.Need-returns-3 Inv-loop μ-loop
 returns-3 c =
