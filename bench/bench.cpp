@@ -133,7 +133,7 @@ Situation makeRows(Dice &d, const Lists &l, size_t rows, Time base) {
     while (count < rows) {
         Tn tn{d.pick(codes) * 10000 + d.below(10000)};
         if (numbers.count(tn)) continue;
-        makeVersionsOf(d, s, tn, numbers[tn]);
+        makeVersionsOf(d, s, {tn}, numbers[tn]);
         count += numbers[tn].size();
     }
     for (const auto &[tn, versions] : numbers) {
@@ -141,7 +141,7 @@ Situation makeRows(Dice &d, const Lists &l, size_t rows, Time base) {
         for (const Version &v : versions)
             if (s.table.used.size() < rows) s.table.used.push_back(v);
     }
-    if (!sound(s.books) || !sound(s.table)) std::puts("bench: an unsound situation was made"), std::exit(2);
+    if (!sound(s.books) || !sound(s.table, s.books)) std::puts("bench: an unsound situation was made"), std::exit(2);
     return s;
 }
 
@@ -318,7 +318,7 @@ std::optional<Event> findEvent(Dice &d, const Situation &s, const Wanted &w) {
         Event e = nextEvent(d, s, w.outcome == DONE ? 95 : 30);
         if (w.outcome == UNLISTED) e = aCreate(d, s, Tn{anyTenDigits(d)});
         if ((w.kind != 0 && e.kind != w.kind) || outcomeOf(s.table, s.books, e) != w.outcome) continue;
-        if (w.outcome == DONE && e.kind <= OLD_CREATES && (workedVersion(s.table, e.tn) == nullptr) != w.fresh) continue;
+        if (w.outcome == DONE && e.kind <= OLD_CREATES && (workedVersion(s.table, s.books, e.tn) == nullptr) != w.fresh) continue;
         return e;
     }
     return std::nullopt;

@@ -127,17 +127,18 @@ inline void breakVersion(Dice &d, Version &v, uint64_t number) {
 
 // ---- Rows beside each other ----
 
-// More numbers, so that places are high; 4,096 rows at most.
-inline void addNumbers(Dice &d, Table &t, size_t rows) {
+// More numbers, so that places are high, some of them lines in split pairs; 4,096 rows at most.
+inline void addNumbers(Dice &d, Table &t, const Books &b, size_t rows) {
     Situation s;
-    std::set<Tn> known;
-    for (const Version &v : t.used) known.insert(v.tn);
+    s.books = b;
+    std::set<Tn> known;  // lines, each by its smaller name
+    for (const Version &v : t.used) known.insert(smallerName(b, v.tn));
     while (t.used.size() < rows) {
-        Tn tn{anyTenDigits(d)};
-        if (known.insert(tn).second) makeVersionsOf(d, s, tn, t.used);
+        Tn tn{(b.splits.empty() || d.chance(70) ? anyCode(d) : d.pick(b.splits).one) * 10000 + d.below(10000)};
+        if (known.insert(smallerName(b, tn)).second) makeVersionsOf(d, s, namesOf(b, tn), t.used);
     }
     if (t.used.size() > MOST_ROWS) t.used.resize(MOST_ROWS);
-    std::sort(t.used.begin(), t.used.end(), [](const Version &a, const Version &b) { return rising(a, b); });
+    sortRows(t.used);
     t.freeRows = std::min(t.freeRows, MOST_ROWS - t.used.size());
 }
 
@@ -173,6 +174,42 @@ inline void breakCounts(Dice &d, Table &t, uint64_t number) {
     t.freeRows -= std::min<size_t>(t.freeRows, more.size());
 }
 
+// ---- Rows of one line ----
+
+// Of the rows in split pairs those that a number from 33 on is about: live, sending, worked, any.
+inline std::vector<size_t> inPairs(const Table &t, const Books &b, uint64_t number) {
+    std::vector<size_t> out;
+    for (size_t i = 0; i < t.used.size(); i++) {
+        const Version &v = t.used[i];
+        bool like = number == 33 ? v.live : number == 34 ? v.status == SENDING : number == 35 ? worked(v) : true;
+        if (like && otherName(b, v.tn)) out.push_back(i);
+    }
+    return out;
+}
+
+// Numbers 33 to 36: a row once more under the other name of its line. For the first three it has mostly a number that the line has not, for
+// the last the same number and nothing that a line may have only once. Where a line is a TN, the table stays sound.
+inline void breakLine(Dice &d, Table &t, const Books &b, uint64_t number) {
+    std::vector<size_t> like = inPairs(t, b, number);
+    if (like.empty() || t.used.size() >= MOST_ROWS) return;
+    Version again = t.used[d.pick(like)];
+    again.tn = *otherName(b, again.tn);
+    uint64_t last = 0;
+    for (const Version &v : t.used)
+        if (smallerName(b, v.tn) == smallerName(b, again.tn)) last = std::max(last, v.number);
+    if (number < 36 && last < LAST_VERSION && d.chance(80)) again.number = last + 1;
+    if (number == 34 && again.purpose == ACTIVATE) again.live = false;
+    if (number == 36) {
+        again.status = CANCELED, again.live = false, again.canceller = NOBODY, again.start = 0, again.purpose = NO_PURPOSE;
+        again.waiting.clear(), again.retries.clear();
+    }
+    for (const Version &v : t.used)
+        if (v.tn == again.tn && v.number == again.number) return;
+    t.used.push_back(again);
+    sortRows(t.used);
+    t.freeRows -= std::min<size_t>(t.freeRows, 1);
+}
+
 // ---- Table ----
 
 inline void flip(Bytes &out, size_t bit) { out[bit / 8] = uint8_t(out[bit / 8] ^ 128u >> bit % 8); }
@@ -196,24 +233,33 @@ inline void breakLength(Dice &d, Bytes &out) {
     }
 }
 
-inline Bytes brokenTable(Dice &d, Table t) {
+// One to three lines broken; mostly nothing else.
+inline bool breakLines(Dice &d, Table &t, const Books &b) {
+    static const std::vector<uint64_t> numbers = {33, 34, 34, 35, 36};
+    for (uint64_t n = d.pick(std::vector<uint64_t>{1, 1, 1, 2, 3}); n > 0; n--) breakLine(d, t, b, d.pick(numbers));
+    return d.chance(85);
+}
+
+inline Bytes brokenTable(Dice &d, Table t, const Books &b) {
     size_t more = d.chance(2) ? MOST_ROWS : d.chance(8) ? d.between(250, 300) : t.used.size() + d.between(2, 9);
-    if (t.used.size() < 2 || d.chance(25)) addNumbers(d, t, more);
+    if (t.used.size() < 2 || d.chance(25)) addNumbers(d, t, b, more);
+    bool linesAlone = !b.splits.empty() && d.chance(ONE_LINE ? 18 : 4) && breakLines(d, t, b);
     std::vector<Break> breaks = anyBreaks(d, t.used.size(), 3, 31), bits;
-    for (const Break &b : breaks) {
-        if (b.number <= 4 || b.number == 13) bits.push_back(b);
-        else if (b.number < 28) breakVersion(d, t.used[b.at], b.number);
-        else if (b.number == 28) breakOrder(d, t, b.at);
-        else breakCounts(d, t, b.number);
+    if (linesAlone) breaks.clear();
+    for (const Break &k : breaks) {
+        if (k.number <= 4 || k.number == 13) bits.push_back(k);
+        else if (k.number < 28) breakVersion(d, t.used[k.at], k.number);
+        else if (k.number == 28) breakOrder(d, t, k.at);
+        else breakCounts(d, t, k.number);
     }
     Bytes out;
     packTable(t, out);
-    for (const Break &b : bits) {
-        if (b.number == 3) breakRows(d, out, b.at, t.used.size());
-        else flip(out, b.at * ROW * 8 + (b.number == 13 ? unusedRetriesBit(d) : spareBit(d)));
+    for (const Break &k : bits) {
+        if (k.number == 3) breakRows(d, out, k.at, t.used.size());
+        else flip(out, k.at * ROW * 8 + (k.number == 13 ? unusedRetriesBit(d) : spareBit(d)));
     }
     if (out.size() > MOST_ROWS * ROW) out.resize(MOST_ROWS * ROW);
-    if (d.chance(5)) breakLength(d, out);
+    if (!linesAlone && d.chance(5)) breakLength(d, out);
     return out;
 }
 

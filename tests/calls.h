@@ -7,6 +7,7 @@
 #define LUPINENBLATT_TESTS_CALLS_H
 
 #include "lupinenblatt.h"
+#include "sizes.h"
 
 #ifdef __cplusplus
 extern "C" {
@@ -35,6 +36,26 @@ lupinenblatt_answer lupinenblatt_table_check(const uint8_t *table, size_t table_
 /* 0 where provider list and books are sound, otherwise 1. */
 uint8_t lupinenblatt_books_check(const uint8_t *providers, size_t providers_length, const uint8_t *books, size_t books_length);
 #endif
+
+/*
+ * The table's check as the tests call it. It takes provider list and books too once request A3 has landed; until the header says so, what
+ * stands in for the library makes that form under a name of its own.
+ */
+#if ONE_LINE
+lupinenblatt_answer lupinenblatt_table_check_of_lines(const uint8_t *table, size_t table_length, const uint8_t *providers,
+                                                      size_t providers_length, const uint8_t *books, size_t books_length);
+#endif
+
+static inline lupinenblatt_answer checkTable(const uint8_t *table, size_t table_length, const uint8_t *providers, size_t providers_length,
+                                             const uint8_t *books, size_t books_length)
+{
+#if ONE_LINE
+    return lupinenblatt_table_check_of_lines(table, table_length, providers, providers_length, books, books_length);
+#else
+    (void)providers, (void)providers_length, (void)books, (void)books_length;
+    return lupinenblatt_table_check(table, table_length);
+#endif
+}
 
 #ifndef LUPINENBLATT_HEADER_HAS_SELECTION
 /*

@@ -3,7 +3,8 @@
 //     compare [events] [seed] [first sequence]
 //
 // Sequences of events over sound situations, with damaged slices between; neighbours exchanged as demand 3 allows; many events in one call;
-// the checks of soundness alone, and where something is unsound; the class that selection gives each provider; records; the 35 flows.
+// the checks of soundness alone, and where something is unsound; the class that selection gives each provider; lines with two names (A3);
+// records; the 35 flows.
 // Sequence n of a seed is always the same, so a difference is replayed with its seed and its number.
 #include <cstdio>
 #include <cstring>
@@ -31,6 +32,9 @@ enum Asked : size_t { TOLD, OF_UNSOUND, NO_TN, ANOTHER_LENGTH, UNSOUND_AND_NO_TN
 enum Reason : size_t { FREE, OWN_CODE_OF_PAIR, OTHER_CODE_OF_PAIR, ABSENT_IN_LIST, BEHIND_LIST, NO_SYSTEM, NO_SYSTEM_AND_FILTER,
                        NO_SYSTEM_AND_FILTERS, ONE_FILTER, TWO_FILTERS, REASONS };
 
+// What happens on lines with two names, as far as it is counted apart.
+enum OnLine : size_t { RETIRED, CONCURRED, NUMBERED, BUSY_BY_OTHER, EARLY_BY_OTHER, LIVE_BY_OTHER, OWN_OWNER, OTHER_OWNER, ON_LINE };
+
 struct Tally {
     uint64_t events = 0, differ = 0, records = 0, exchanged = 0, unsoundAfter = 0, checks = 0, runs = 0, stops = 0;
     uint64_t outcomes[KINDS + 2][OUTCOMES + 1] = {};  // by kind (the first and the last: no kind) and outcome (the last: no outcome)
@@ -39,6 +43,8 @@ struct Tally {
     uint64_t concurring[3][2] = {};  // creates that concur (by new in pending, by new in conflict, by old): done, another due date
     uint64_t selections[ASKED] = {}, reasons[REASONS] = {};  // calls of selection; the providers that it told a class of, by reason
     uint64_t broadcast[CLASSES] = {}, resent[CLASSES] = {};  // by class: providers at kinds 5, 9, 10; failed systems at a resend
+    uint64_t splitLines = 0, underOther[KINDS + 1][2] = {};  // events on lines in split pairs; under another name by kind: done, refused
+    uint64_t onLine[ON_LINE] = {};
     uint64_t seed = 0, sequence = 0;
 } tally;
 
@@ -97,9 +103,15 @@ lupinenblatt_answer callLibrary(Slices &s, const Bytes &record) {
                              record.size(), at(s.tray), s.tray.size());
 }
 
+// The books, or none where the bytes are no form of any.
+const Books &listsOf(const std::optional<Books> &books) {
+    static const Books none;
+    return books ? *books : none;
+}
+
 // The retries that a silence's system has used.
-uint64_t retriesUsed(std::optional<Table> &table, const std::optional<Event> &e) {
-    Version *v = table && e && e->kind == SILENCE ? findVersion(*table, e->tn, e->version) : nullptr;
+uint64_t retriesUsed(std::optional<Table> &table, const std::optional<Books> &books, const std::optional<Event> &e) {
+    Version *v = table && e && e->kind == SILENCE ? findVersion(*table, listsOf(books), e->tn, e->version) : nullptr;
     return v && v->retries.count(e->other) ? v->retries[e->other] : 0;
 }
 
@@ -110,10 +122,69 @@ void countConcurring(const std::optional<Version> &with, const std::optional<Eve
 }
 
 // The worked version that a create fits.
-std::optional<Version> concursWith(const std::optional<Table> &table, const std::optional<Event> &e) {
+std::optional<Version> concursWith(const std::optional<Table> &table, const std::optional<Books> &books, const std::optional<Event> &e) {
     bool create = table && e && (e->kind == NEW_CREATES || e->kind == OLD_CREATES);
-    const Version *v = create ? workedVersion(*table, e->tn) : nullptr;
+    const Version *v = create ? workedVersion(*table, listsOf(books), e->tn) : nullptr;
     return v && fits(*v, *e) ? std::optional<Version>(*v) : std::nullopt;
+}
+
+// ---- Lines with two names ----
+
+// What the table says of an event's line before it, where the line stands in a split pair.
+struct LineBefore {
+    bool split = false, other = false;      // in a pair; under another name than the row, or all rows, that it is for
+    std::optional<Version> meant, live;     // the version that it is for (of a create the worked one); the live one
+    bool fresh = false, create = false, newestOther = false, sendingOther = false;
+    Time ownStamp = 0, otherStamp = 0;      // the largest of the versions under the event's name, and under the other
+    Provider owner = 0, partnersOwner = 0;  // of the event's code, of its partner
+};
+
+LineBefore lineBefore(const std::optional<Table> &table, const std::optional<Books> &books, const std::optional<Event> &e) {
+    LineBefore l;
+    if (!ONE_LINE || !table || !books || !sound(*books) || !e || !wellFormed(*e) || !otherName(*books, e->tn)) return l;
+    l.split = true, l.create = e->kind <= OLD_CREATES;
+    const Version *v = l.create ? workedVersion(*table, *books, e->tn) : findVersion(*table, *books, e->tn, e->version);
+    std::vector<const Version *> all = versionsOf(*table, *books, e->tn);
+    uint64_t last = newest(*table, *books, e->tn);
+    bool own = false;
+    for (const Version *o : all) {
+        bool apart = o->tn != (v && !l.create ? v->tn : e->tn);
+        own = own || o->tn == e->tn;
+        if (o->live) l.live = *o;
+        if (o->number == last) l.newestOther = apart;
+        if (o->status == SENDING && apart) l.sendingOther = true;
+        Time &stamp = apart ? l.otherStamp : l.ownStamp;
+        stamp = std::max(stamp, o->stamp);
+    }
+    if (v) l.meant = *v;
+    l.fresh = l.create && !v;
+    l.other = v ? v->tn != e->tn : !all.empty() && !own;
+    l.owner = ownerOf(*books, codeOf(e->tn)), l.partnersOwner = ownerOf(*books, codeOf(*otherName(*books, e->tn)));
+    return l;
+}
+
+// [A3.2] Whether the event turned the live version that stood under another name than the event's row old.
+bool retiredOther(const LineBefore &l, const Table &after) {
+    if (!l.meant || !l.live || l.create || l.live->tn == l.meant->tn) return false;
+    for (const Version &v : after.used)
+        if (v.tn == l.live->tn && v.number == l.live->number) return !v.live && v.status == OLD;
+    return false;
+}
+
+void countLine(const LineBefore &l, const std::optional<Event> &e, uint64_t outcome, const std::optional<Table> &after) {
+    if (!l.split || outcome == UNSOUND || outcome == MALFORMED) return;
+    bool done = outcome == DONE, judged = l.create && !l.live && l.owner != 0 && l.partnersOwner != 0 && l.owner != l.partnersOwner;
+    tally.splitLines++;
+    if (l.other) tally.underOther[e->kind][!done]++;
+    tally.onLine[RETIRED] += done && retiredOther(l, *after);
+    tally.onLine[CONCURRED] += done && l.create && l.meant && l.other;
+    tally.onLine[NUMBERED] += done && l.fresh && l.newestOther;
+    tally.onLine[BUSY_BY_OTHER] += outcome == BUSY && l.sendingOther;
+    bool early = outcome == EARLY && e->kind != REPLY && e->kind != SILENCE;
+    tally.onLine[EARLY_BY_OTHER] += early && e->time >= l.ownStamp && e->time < l.otherStamp;
+    tally.onLine[LIVE_BY_OTHER] += done && l.create && l.live && l.live->tn != e->tn;
+    tally.onLine[OWN_OWNER] += judged && done;
+    tally.onLine[OTHER_OWNER] += judged && outcome == NOT_CURRENT && (e->kind == NEW_CREATES ? e->other : e->sender) == l.partnersOwner;
 }
 
 // ---- Selection ----
@@ -237,7 +308,7 @@ uint64_t numberIn(const uint8_t *record, size_t length) {
 
 bool lookBefore(const Slices &s, const Bytes &record, std::optional<Table> &table, const std::optional<Books> &books, Before &before) {
     std::optional<Event> e = unpackEvent(record.data(), record.size());
-    const Version *v = table && e && e->kind == RESEND ? findVersion(*table, e->tn, e->version) : nullptr;
+    const Version *v = table && e && e->kind == RESEND ? findVersion(*table, listsOf(books), e->tn, e->version) : nullptr;
     before.failed = v ? v->failed : Systems();
     return compareSelections(s, books, numberIn(record.data(), record.size()), before.classes);
 }
@@ -278,8 +349,9 @@ bool compareStep(Slices &s, const Bytes &record, std::optional<Table> &table, co
     before = s;
     library = callLibrary(s, record);
     std::optional<Event> e = unpackEvent(record.data(), record.size());
-    uint64_t used = retriesUsed(table, e);
-    std::optional<Version> with = concursWith(table, e);
+    uint64_t used = retriesUsed(table, books, e);
+    std::optional<Version> with = concursWith(table, books, e);
+    LineBefore line = lineBefore(table, books, e);
     model = step(table, books, s.R, e, s.tray.size() / MESSAGE);
     tray2 = before.tray;
     if (model.outcome == DONE) {
@@ -291,11 +363,12 @@ bool compareStep(Slices &s, const Bytes &record, std::optional<Table> &table, co
     tally.events++, tally.shortCalls += s.shortCall;
     if (s.shortCall && model.outcome == DONE && e->kind == SILENCE) tally.shortSilences[used]++;
     countConcurring(with, e, model.outcome);
+    countLine(line, e, model.outcome, table);
     bool counted = counts(record.empty() ? 0 : record[0], model.outcome);
     const char *what = library.outcome != model.outcome ? "outcome" : library.count != model.messages.size() ? "count"
         : s.table != table2 ? "table" : s.tray != tray2 ? "tray" : s.providers != before.providers ? "providers written to"
         : s.books != before.books ? "books written to" : !counted ? UNCOUNTED : lookAfter(s, record, said, library);
-    if (model.outcome == DONE && !sound(*table)) what = "the model leaves an unsound table", tally.unsoundAfter++;
+    if (model.outcome == DONE && !sound(*table, books)) what = "the model leaves an unsound table", tally.unsoundAfter++;
     if (!what) return true;
     report(what, before, record);
     if (tally.differ == 1) {
@@ -330,7 +403,7 @@ void damage(Dice &d, Slices &s, const Situation &now) {
     s.shortCall = false;
     uint64_t way = d.below(100);
     if (way < 27) s.table = damagedTable(d, now.table);
-    else if (way < 55) s.table = brokenTable(d, now.table);
+    else if (way < 55) s.table = brokenTable(d, now.table, now.books);
     else if (way < 65) s.books = damagedBooks(d, now.books);
     else if (way < 78) s.books = brokenBooks(d, now.books);
     else if (way < 82) s.providers = damagedProviders(d, now.books);
@@ -346,9 +419,10 @@ bool compareChecks(const Slices &s, const std::optional<Table> &table, const std
 #ifdef TEST_CHECKS
     Slices kept = s;
     tally.checks++;
-    lupinenblatt_answer a = lupinenblatt_table_check(at(kept.table), kept.table.size());
+    lupinenblatt_answer a = checkTable(at(kept.table), kept.table.size(), at(kept.providers), kept.providers.size(), at(kept.books),
+                                       kept.books.size());
     uint64_t b = lupinenblatt_books_check(at(kept.providers), kept.providers.size(), at(kept.books), kept.books.size());
-    bool tableSound = table && sound(*table), booksSound = books && sound(*books);
+    bool tableSound = table && sound(*table, books), booksSound = books && sound(*books);
     const char *what = a.outcome != (tableSound ? DONE : UNSOUND) ? "table_check: outcome"
         : a.count != (tableSound ? table->used.size() : 0) ? "table_check: used rows" : b != (booksSound ? DONE : UNSOUND) ? "books_check"
         : kept.table != s.table || kept.providers != s.providers || kept.books != s.books ? "a check wrote" : nullptr;
@@ -368,7 +442,7 @@ void printFault(const char *who, const Fault &f) {
 // The verdict of the calls that say where against that of the two checks.
 const char *verdictFault(Slices &s, const Fault &table, const Fault &books) {
 #ifdef TEST_CHECKS
-    bool rows = lupinenblatt_table_check(at(s.table), s.table.size()).outcome == DONE;
+    bool rows = checkTable(at(s.table), s.table.size(), at(s.providers), s.providers.size(), at(s.books), s.books.size()).outcome == DONE;
     bool lists = lupinenblatt_books_check(at(s.providers), s.providers.size(), at(s.books), s.books.size()) == DONE;
     if ((table.clause == 0) != (rows && lists)) return "table_fault and the two checks";
     if ((table.clause == 32) != (rows && !lists)) return "table_fault and the table's check";
@@ -478,18 +552,19 @@ void runSequence(Dice &d) {
 
 // ---- Exchanges (demand 3) ----
 
-// Neighbours that may be exchanged: events that name different numbers, and answers for one version from different Local SMSs.
-bool exchangeable(const Event &a, const Event &b) {
-    if (a.tn != b.tn) return true;
+// Neighbours that may be exchanged: events on different lines, and answers for one version (line and number, [A3.6] whichever name each
+// uses) from different Local SMSs.
+bool exchangeable(const Books &books, const Event &a, const Event &b) {
+    if (lineOf(books, a.tn) != lineOf(books, b.tn)) return true;
     bool answers = (a.kind == REPLY || a.kind == SILENCE) && (b.kind == REPLY || b.kind == SILENCE);
     Provider one = a.kind == REPLY ? a.sender : a.other, two = b.kind == REPLY ? b.sender : b.other;
     return answers && a.version == b.version && one != two;
 }
 
-// What a run of the library leaves: per event its outcome, per system and number its messages in order, the table.
+// What a run of the library leaves: per event its outcome, per system and line its messages in order, the table.
 struct Trace {
     std::vector<uint64_t> outcomes;
-    std::map<std::pair<std::pair<Provider, bool>, uint64_t>, std::vector<Bytes>> told;
+    std::map<std::pair<std::pair<Provider, bool>, Tn>, std::vector<Bytes>> told;
     Bytes table;
 };
 
@@ -505,7 +580,7 @@ bool runTrace(const Situation &s, Slices slices, const std::vector<Event> &event
         for (uint64_t m = 0; m < library.count; m++) {
             const uint8_t *at = slices.tray.data() + m * MESSAGE;
             Message message = unpackMessage(at);
-            trace.told[{{message.provider, message.localSms}, message.tn.digits}].push_back(Bytes(at, at + MESSAGE));
+            trace.told[{{message.provider, message.localSms}, lineOf(s.books, message.tn)}].push_back(Bytes(at, at + MESSAGE));
         }
     }
     trace.table = slices.table;
@@ -533,7 +608,7 @@ void runExchange(Dice &d) {
     uint64_t exchanges = 0;
     for (uint64_t n = d.chance(40) ? 1 : 6 * count; n > 0; n--) {
         size_t i = d.below(count - 1);
-        if (!exchangeable(events[other[i]], events[other[i + 1]])) continue;
+        if (!exchangeable(s.books, events[other[i]], events[other[i + 1]])) continue;
         std::swap(other[i], other[i + 1]);
         exchanges++;
     }
@@ -563,7 +638,7 @@ ModelRan modelRun(const Slices &s, const Bytes &events, const Bytes &outcomes) {
     m.table = s.table, m.tray = s.tray, m.outcomes = outcomes;
     std::optional<Table> table = unpackTable(s.table.data(), s.table.size());
     std::optional<Books> books = unpackBooks(s.providers.data(), s.providers.size(), s.books.data(), s.books.size());
-    bool good = table && sound(*table) && books && sound(*books) && s.R <= MOST_RETRIES && s.tray.size() / MESSAGE >= PLACES;
+    bool good = table && sound(*table, books) && books && sound(*books) && s.R <= MOST_RETRIES && s.tray.size() / MESSAGE >= PLACES;
     if (!good || outcomes.size() < events.size() / RECORD * 2) return m;
     m.outcome = events.size() % RECORD == 0 ? DONE : MALFORMED;
     if (m.outcome != DONE) return m;
@@ -742,6 +817,31 @@ bool printConcurring() {
     return good;
 }
 
+// How often events were on lines in split pairs, and what happened there under the two names.
+bool printLines() {
+    static const char *const what[ON_LINE] = {
+        "live version under the other name turned old by a closing", "concurrence under another name than the row's",
+        "fresh version numbered above one under the other name", "busy by a sending version under the other name",
+        "too early by the stamp under the other name alone", "create done, the current provider by a live version under the other name",
+        "no live version, two owners: create done by the owner of the event's code",
+        "no live version, two owners: the partner's owner gets 12"};
+    if (!ONE_LINE) return true;
+    bool good = true;
+    std::printf("%llu events on lines in split pairs; under another name than the row's\nkind           done   refused\n",
+                (unsigned long long)tally.splitLines);
+    for (size_t k = 1; k <= KINDS; k++) {
+        std::printf("%-9zu", k);
+        for (uint64_t count : tally.underOther[k]) good = seen(count) && good;
+        std::printf("\n");
+    }
+    for (size_t i = 0; i < ON_LINE; i++) {
+        std::printf("    %-76s", what[i]);
+        good = seen(tally.onLine[i]) && good;
+        std::printf("\n");
+    }
+    return good;
+}
+
 #ifdef TEST_SELECTION
 // How often selection was called how, and of how many providers it told what; what it said where a broadcast or a resend took it.
 bool printSelection() {
@@ -817,6 +917,7 @@ int main(int argc, char **argv) {
     bool enough = printFaults();
     enough = printShort() && enough;
     enough = printConcurring() && enough;
+    enough = printLines() && enough;
     enough = printSelection() && enough;
     printTally();
     std::printf("%llu events compared, %llu differ\n", (unsigned long long)tally.events, (unsigned long long)tally.differ);

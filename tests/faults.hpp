@@ -1,7 +1,7 @@
 // docs/FAULTS.md once more, as a plain program over the bytes: where a table, a provider list or books are unsound.
 //
 // Places are read from the first to the last, each judged by its clauses in the order of their numbers; the first that fails is told. A row
-// is what its words hold, also where they are the form of no version.
+// is what its words hold, also where they are the form of no version. Lines come last: they need sound rows and sound books.
 #pragma once
 
 #include "layouts.hpp"
@@ -141,8 +141,6 @@ inline Fault pairsFault(const uint8_t *list) {
     return {};
 }
 
-// ---- The two answers ----
-
 inline Fault booksFault(const uint8_t *providers, size_t providersLength, const uint8_t *books, size_t length) {
     Fault f = providersFault(providers, providersLength);
     if (f.clause != 0) return f;
@@ -156,6 +154,35 @@ inline Fault booksFault(const uint8_t *providers, size_t providersLength, const 
     return f;
 }
 
+// ---- Lines ----
+
+// [A3.5] Numbers 33 to 36: a row by those before it that are of its line.
+inline Fault lineFault(const Books &b, const std::vector<Version> &before, const Version &v) {
+    size_t place = before.size() + 1, other = 0;
+    auto ofLine = [&](const Version &o) { return lineOf(b, o.tn) == lineOf(b, v.tn); };
+    if (v.live) other = nearest(before, [&](const Version &o) { return ofLine(o) && o.live; });
+    if (other > 0) return {33, place, other};
+    if (v.status == SENDING) other = nearest(before, [&](const Version &o) { return ofLine(o) && o.status == SENDING; });
+    if (other > 0) return {34, place, other};
+    if (worked(v)) other = nearest(before, [&](const Version &o) { return ofLine(o) && worked(o); });
+    if (other > 0) return {35, place, other};
+    other = nearest(before, [&](const Version &o) { return ofLine(o) && o.number == v.number; });
+    if (other > 0) return {36, place, other};
+    return {};
+}
+
+inline Fault linesFault(const Books &b, const std::vector<Version> &used) {
+    std::vector<Version> before;
+    for (const Version &v : used) {
+        Fault f = partnerOf(b, codeOf(v.tn)) ? lineFault(b, before, v) : Fault{};  // without a partner there is nothing behind number 31
+        if (f.clause != 0) return f;
+        before.push_back(v);
+    }
+    return {};
+}
+
+// ---- The two answers ----
+
 inline Fault tableFault(const uint8_t *table, size_t tableLength, const uint8_t *providers, size_t providersLength, const uint8_t *books,
                         size_t booksLength) {
     if (tableLength % ROW != 0) return {1, 0, 0};
@@ -163,7 +190,10 @@ inline Fault tableFault(const uint8_t *table, size_t tableLength, const uint8_t 
     Fault f = rowsFault(table, tableLength / ROW);
     if (f.clause != 0) return f;
     f = booksFault(providers, providersLength, books, booksLength);
-    return f.clause != 0 ? Fault{32, 0, 0} : Fault{};
+    if (f.clause != 0) return {32, 0, 0};
+    if (!ONE_LINE) return {};
+    Books b = unpackBooks(providers, providersLength, books, booksLength).value_or(Books());
+    return linesFault(b, unpackTable(table, tableLength).value_or(Table()).used);
 }
 
 }  // namespace MODEL

@@ -139,7 +139,7 @@ Input makeInput(Dice &d, const Situation &s) {
     in.tray = anyBytes(d, PLACES * MESSAGE + (d.chance(20) ? d.below(80) : 0));
     in.R = s.R;
     uint64_t way = d.below(100);
-    if (way < 8) in.table = d.chance(50) ? damagedTable(d, s.table) : brokenTable(d, s.table);
+    if (way < 8) in.table = d.chance(50) ? damagedTable(d, s.table) : brokenTable(d, s.table, s.books);
     else if (way < 14) in.books = d.chance(50) ? damagedBooks(d, s.books) : brokenBooks(d, s.books);
     else if (way < 18) in.providers = d.chance(50) ? damagedProviders(d, s.books) : brokenProviders(d, s.books);
     else if (way < 28) stir(d, in.table);
@@ -159,12 +159,13 @@ struct Places { Place table, providers, books, event, tray, outcomes, classes; }
 bool soundInput(const Input &in) {
     std::optional<Table> t = unpackTable(in.table.data(), in.table.size());
     std::optional<Books> b = unpackBooks(in.providers.data(), in.providers.size(), in.books.data(), in.books.size());
-    return t && sound(*t) && b && sound(*b) && in.R <= MOST_RETRIES && in.tray.size() / MESSAGE >= PLACES;
+    return t && sound(*t, b) && b && sound(*b) && in.R <= MOST_RETRIES && in.tray.size() / MESSAGE >= PLACES;
 }
 
-bool soundAfter(const Bytes &table) {
+// A table that an event left, by the books that it was given.
+bool soundAfter(const Bytes &table, const Input &in) {
     std::optional<Table> t = unpackTable(table.data(), table.size());
-    return t && sound(*t);
+    return t && sound(*t, unpackBooks(in.providers.data(), in.providers.size(), in.books.data(), in.books.size()));
 }
 
 void printInput(const Input &in) {
@@ -196,7 +197,7 @@ void checkStep(Dice &d, Places &p, const Input &in, uint64_t (&outcomes)[OUTCOME
     bool good = soundInput(in), formed = readRecord(in.event.data(), in.event.size()).has_value();
     if (good != (a.outcome != 1)) what = good ? "outcome 1 though everything is sound" : "not outcome 1 though something is unsound";
     else if (good && formed != (a.outcome != 2)) what = formed ? "outcome 2 for a well-formed record" : "not outcome 2 for a malformed record";
-    if (a.outcome == 0 && !soundAfter(p.table.now())) what = "outcome 0 left an unsound table";
+    if (a.outcome == 0 && !soundAfter(p.table.now(), in)) what = "outcome 0 left an unsound table";
     bool guarded = p.table.guarded();
     guarded = p.providers.guarded() && guarded;
     guarded = p.books.guarded() && guarded;
@@ -246,7 +247,7 @@ const char *runFault(Places &p, const Input &in, const lupinenblatt_ran &a, cons
     if (a.events < count && places - messages >= PLACES) return "run: stopped with places left";
     if (!p.tray.same(a.messages * MESSAGE)) return "run: the tray was changed behind its messages";
     if (!p.outcomes.same(2 * a.events)) return "run: the outcome slice was changed behind the last event";
-    return soundAfter(p.table.now()) ? nullptr : "run: left an unsound table";
+    return soundAfter(p.table.now(), in) ? nullptr : "run: left an unsound table";
 }
 
 void checkRun(Dice &d, Places &p, const Input &in, const Bytes &blank) {
@@ -277,11 +278,11 @@ void checkRun(Dice &d, Places &p, const Input &in, const Bytes &blank) {
 // The checks of soundness alone.
 void checkChecks(Dice &d, Places &p, const Input &in) {
     uint8_t *table = p.table.lay(d, in.table), *providers = p.providers.lay(d, in.providers), *books = p.books.lay(d, in.books);
-    lupinenblatt_answer a = lupinenblatt_table_check(table, in.table.size());
+    lupinenblatt_answer a = checkTable(table, in.table.size(), providers, in.providers.size(), books, in.books.size());
     uint8_t b = lupinenblatt_books_check(providers, in.providers.size(), books, in.books.size());
     std::optional<Table> t = unpackTable(in.table.data(), in.table.size());
     std::optional<Books> list = unpackBooks(in.providers.data(), in.providers.size(), in.books.data(), in.books.size());
-    bool tableSound = t && sound(*t), booksSound = list && sound(*list);
+    bool tableSound = t && sound(*t, list), booksSound = list && sound(*list);
     const char *what = nullptr;
     if (a.outcome != !tableSound || a.count != (tableSound ? t->used.size() : 0)) what = "table_check answers wrongly";
     else if (b != !booksSound) what = "books_check answers wrongly";

@@ -28,7 +28,7 @@ struct Situation {
     Books books;
     Table table;
     uint64_t R = 0;
-    std::vector<Tn> tns;               // those the events are about
+    std::vector<Tn> tns;               // those the events are about; of a line in a split pair mostly both names
     std::vector<Provider> present;     // in the books
     std::vector<Provider> systems;     // those of them with a Local SMS
     Time base = 1;                     // times begin about here
@@ -38,6 +38,19 @@ inline Code anyCode(Dice &d) { return d.between(2, 9) * 100000 + d.below(100) * 
 inline uint64_t anyTenDigits(Dice &d) { return anyCode(d) * 10000 + d.below(10000); }
 
 inline Provider anyPresent(Dice &d, const Situation &s) { return s.present.empty() ? d.between(1, PROVIDERS) : d.pick(s.present); }
+
+// The other name of a line in a split pair, by the split list alone; and the smaller of its names. Where a line is a TN they are two numbers.
+inline std::optional<Tn> otherName(const Books &b, Tn tn) {
+    std::optional<Code> partner = partnerOf(b, codeOf(tn));
+    return partner ? std::optional<Tn>(Tn{*partner * 10000 + tn.digits % 10000}) : std::nullopt;
+}
+
+inline Tn smallerName(const Books &b, Tn tn) { return std::min(tn, otherName(b, tn).value_or(tn)); }
+
+// How often, in a hundred, an event for a version in a split pair has the other name. Where a line is a TN, that is another number.
+constexpr uint64_t OTHER_NAME = ONE_LINE ? 35 : 2;
+inline Tn anyName(Dice &d, const Books &b, Tn tn) { return d.chance(OTHER_NAME) ? otherName(b, tn).value_or(tn) : tn; }
+
 inline Time after(Time t, uint64_t more) { return std::max<Time>(1, std::min<Time>(LAST_TIME, t + more)); }
 
 // ---- Books ----
@@ -66,7 +79,8 @@ inline void makeProviders(Dice &d, Situation &s) {
     }
 }
 
-// Codes of the TNs, listed or not, some in split pairs; filters on both codes of a pair, on one, on none; other entries around them.
+// Codes of the TNs, listed or not, some in split pairs, their partners listed too, with the same owner or another, or not; filters on both
+// codes of a pair, on one, on none; other entries around them.
 inline void makeLists(Dice &d, Situation &s, std::vector<Code> &homes) {
     std::map<Code, Provider> codes;
     std::set<std::pair<Provider, Code>> filters;
@@ -82,6 +96,9 @@ inline void makeLists(Dice &d, Situation &s, std::vector<Code> &homes) {
     for (size_t i = 0; i < homes.size(); i++) {
         if (d.chance(92) && !s.present.empty()) codes[homes[i]] = d.pick(s.present);
         if (d.chance(50)) pair(homes[i], d.chance(30) ? d.pick(homes) : anyCode(d));
+        std::optional<Code> partner = partnerOf(s.books, homes[i]);
+        if (!partner || !codes.count(homes[i]) || codes.count(*partner) || d.chance(15)) continue;
+        codes[*partner] = d.chance(60) ? codes[homes[i]] : d.pick(s.present);
     }
     for (uint64_t n = brim ? SPLITS : d.below(5); n > 0; n--) pair(anyCode(d), anyCode(d));
     for (size_t i = s.books.splits.size(); i > 1; i--) std::swap(s.books.splits[i - 1], s.books.splits[d.below(i)]);
@@ -158,8 +175,10 @@ inline Version makeVersion(Dice &d, const Situation &s, Tn tn, uint64_t number, 
     return v;
 }
 
-inline void makeVersionsOf(Dice &d, Situation &s, Tn tn, std::vector<Version> &out) {
-    bool live = false, sending = false, workedOne = false;
+// The versions of a line with these names, under one of them or under both; by numbers and marks they are sound as versions of one line.
+inline void makeVersionsOf(Dice &d, Situation &s, const std::vector<Tn> &names, std::vector<Version> &out) {
+    bool live = false, sending = false, workedOne = false, mixed = d.chance(75);
+    Tn name = d.pick(names);
     size_t first = out.size();
     uint64_t count = d.below(6), number = d.chance(12) ? LAST_VERSION - 3 * count + d.below(3) : 0;
     for (uint64_t i = 0; i < count; i++) {
@@ -168,31 +187,49 @@ inline void makeVersionsOf(Dice &d, Situation &s, Tn tn, std::vector<Version> &o
         Status status = Status(d.below(STATUSES));
         bool isWorked = status <= CANCEL_PENDING, needsLive = status == PARTIAL_FAILURE || status == ACTIVE;
         if ((isWorked && workedOne) || (needsLive && live) || (status == SENDING && sending)) status = d.chance(50) ? OLD : CANCELED;
-        out.push_back(makeVersion(d, s, tn, number, status, !live));
+        out.push_back(makeVersion(d, s, mixed ? d.pick(names) : name, number, status, !live));
         live = live || out.back().live;
         sending = sending || out.back().status == SENDING;
         workedOne = workedOne || worked(out.back());
         if (number == LAST_VERSION) break;
     }
     // Mostly the worked version is taken from the current provider, so that creates come as far as 9.
-    Provider current = ownerOf(s.books, codeOf(tn));
-    for (size_t i = first; i < out.size(); i++)
-        if (out[i].live) current = out[i].newProvider;
-    for (size_t i = first; i < out.size(); i++)
-        if (worked(out[i]) && current != 0 && current != out[i].newProvider && d.chance(75)) out[i].oldProvider = current;
+    for (size_t i = first; i < out.size(); i++) {
+        if (!worked(out[i])) continue;
+        Provider current = ownerOf(s.books, codeOf(out[i].tn));
+        for (size_t k = first; k < out.size(); k++)
+            if (out[k].live && lineOf(s.books, out[k].tn) == lineOf(s.books, out[i].tn)) current = out[k].newProvider;
+        if (current != 0 && current != out[i].newProvider && d.chance(75)) out[i].oldProvider = current;
+    }
+}
+
+// The names of a line, given by one of them.
+inline std::vector<Tn> namesOf(const Books &b, Tn tn) {
+    std::optional<Tn> other = otherName(b, tn);
+    return other ? std::vector<Tn>{tn, *other} : std::vector<Tn>{tn};
+}
+
+inline void sortRows(std::vector<Version> &rows) {
+    std::sort(rows.begin(), rows.end(), [](const Version &a, const Version &b) { return rising(a, b); });
 }
 
 inline void makeTable(Dice &d, Situation &s, const std::vector<Code> &homes, size_t freeRows) {
-    std::set<Tn> tns;
-    for (uint64_t n = d.between(1, 4); tns.size() < n;) tns.insert(Tn{d.pick(homes) * 10000 + d.below(10000)});
-    s.tns.assign(tns.begin(), tns.end());
-    if (d.chance(25)) {  // empty, or with other numbers alone
-        tns.clear();
+    std::set<Tn> lines;  // each by its smaller name
+    auto add = [&](Tn tn) { return lines.insert(smallerName(s.books, tn)).second; };
+    for (uint64_t n = d.between(1, 4); n > 0;) {
+        Tn tn{d.pick(homes) * 10000 + d.below(10000)};
+        if (!add(tn)) continue;
+        s.tns.push_back(tn), n--;
+        if (d.chance(85) && otherName(s.books, tn)) s.tns.push_back(*otherName(s.books, tn));
     }
-    for (uint64_t n = d.chance(30) ? d.below(8) : 0; n > 0; n--) tns.insert(Tn{anyTenDigits(d)});
+    if (d.chance(25)) {  // empty, or with other numbers alone
+        lines.clear();
+    }
+    for (uint64_t n = d.chance(30) ? d.below(8) : 0; n > 0; n--) add(Tn{anyTenDigits(d)});
     if (d.chance(1) && d.chance(30))
-        while (tns.size() < 1800) tns.insert(Tn{anyTenDigits(d)});
-    for (Tn tn : tns) makeVersionsOf(d, s, tn, s.table.used);
+        while (lines.size() < 1800) add(Tn{anyTenDigits(d)});
+    for (Tn line : lines) makeVersionsOf(d, s, namesOf(s.books, line), s.table.used);
+    sortRows(s.table.used);
     size_t most = d.chance(50) ? MOST_ROWS : MOST_ROWS - 96;
     if (s.table.used.size() > most) s.table.used.resize(most);
     s.table.freeRows = std::min<size_t>(freeRows, MOST_ROWS - s.table.used.size());
@@ -212,7 +249,7 @@ inline Situation makeSituation(Dice &d, size_t freeRows) {
     s.R = anyR(d);
     s.base = d.pick(std::vector<Time>{1, 1, 1000, 1700000000, LAST_TIME - 60, LAST_TIME - 5000});
     makeTable(d, s, homes, freeRows);
-    if (!sound(s.books) || !sound(s.table)) {
+    if (!sound(s.books) || !sound(s.table, s.books)) {
         std::puts("generate: an unsound situation was made");
         std::exit(2);
     }
@@ -223,7 +260,7 @@ inline Situation makeSituation(Dice &d, size_t freeRows) {
 
 // A time that is not too early for this TN, often exactly the earliest.
 inline Time goodTime(Dice &d, const Situation &s, Tn tn, Time atLeast) {
-    Time least = std::max<Time>({largestStamp(s.table, tn), atLeast, 1});
+    Time least = std::max<Time>({largestStamp(s.table, s.books, tn), atLeast, 1});
     if (least == 1) least = s.base;
     return after(least, d.chance(35) ? 0 : d.chance(80) ? d.between(1, 3) : d.between(4, 40));
 }
@@ -251,7 +288,7 @@ inline Event filled(Dice &d, const Situation &s, Event e, Time atLeast) {
 inline Event aCreate(Dice &d, const Situation &s, Tn tn) {
     Event e;
     e.tn = tn;
-    const Version *v = workedVersion(s.table, tn);
+    const Version *v = workedVersion(s.table, s.books, tn);
     Provider oldSide = v ? v->oldProvider : currentProvider(s.table, s.books, tn), newSide = v ? v->newProvider : anyPresent(d, s);
     if (oldSide == 0) oldSide = anyPresent(d, s);
     for (int i = 0; i < 8 && newSide == oldSide; i++) newSide = anyPresent(d, s);
@@ -289,7 +326,7 @@ inline void movesOf(Dice &d, const Situation &s, const Version &v, std::vector<E
         if (v.oldCreated) add(OLD_MODIFIES, v.oldProvider);
         if (d.chance(50)) add(CANCELS, eitherSide());
         if (v.status == CONFLICT) add(RESOLVES, eitherSide());
-        if (!v.newCreated || !v.oldCreated) out.push_back(aCreate(d, s, v.tn));
+        if (!v.newCreated || !v.oldCreated) out.push_back(aCreate(d, s, anyName(d, s.books, v.tn)));
         break;
     case CANCEL_PENDING:
         add(ACKNOWLEDGES, v.canceller == NEW_SIDE ? v.oldProvider : v.newProvider);
@@ -299,7 +336,7 @@ inline void movesOf(Dice &d, const Situation &s, const Version &v, std::vector<E
         for (Provider p : v.waiting) out.push_back(anAnswer(d, s, v, p));
         break;
     case FAILED:
-        if (v.number == newest(s.table, v.tn) || d.chance(10)) add(RESEND, NPAC);
+        if (v.number == newest(s.table, s.books, v.tn) || d.chance(10)) add(RESEND, NPAC);
         break;
     case PARTIAL_FAILURE:
         add(RESEND, NPAC);
@@ -310,14 +347,14 @@ inline void movesOf(Dice &d, const Situation &s, const Version &v, std::vector<E
         else add(DISCONNECTS, v.newProvider);
         break;
     default:
-        if (v.number != newest(s.table, v.tn)) add(PURGE, NPAC);
+        if (v.number != newest(s.table, s.books, v.tn)) add(PURGE, NPAC);
     }
 }
 
 inline Event sensible(Dice &d, const Situation &s, Tn tn) {
     std::vector<Event> moves;
-    for (const Version *v : versionsOf(s.table, tn)) movesOf(d, s, *v, moves);
-    if (!workedVersion(s.table, tn) && !sendingBeside(s.table, tn, nullptr)) moves.push_back(aCreate(d, s, tn));
+    for (const Version *v : versionsOf(s.table, s.books, tn)) movesOf(d, s, *v, moves);
+    if (!workedVersion(s.table, s.books, tn) && !sendingBeside(s.table, s.books, tn, nullptr)) moves.push_back(aCreate(d, s, tn));
     if (moves.empty()) return aCreate(d, s, tn);
     return d.pick(moves);
 }
@@ -343,7 +380,7 @@ inline Provider rightSender(Dice &d, const Version &v, uint64_t kind) {
 
 // A well-formed event of any kind for a version that exists, from any sender or from the right one.
 inline Event anyEvent(Dice &d, const Situation &s, Tn tn) {
-    std::vector<const Version *> versions = versionsOf(s.table, tn);
+    std::vector<const Version *> versions = versionsOf(s.table, s.books, tn);
     uint64_t kind = d.between(1, KINDS);
     if (versions.empty() || kind <= OLD_CREATES) return aCreate(d, s, tn);
     const Version &v = *d.pick(versions);
@@ -354,11 +391,11 @@ inline Event anyEvent(Dice &d, const Situation &s, Tn tn) {
 
 // One thing wrong in an event that would be accepted, or at least another event than was meant; still well formed.
 inline Event spoilt(Dice &d, const Situation &s, Event e) {
-    const Version *v = findVersion(s.table, e.tn, e.version);
+    const Version *v = findVersion(s.table, s.books, e.tn, e.version);
     Named named = fieldsOf(e.kind);
     switch (d.below(10)) {
     case 0: case 1: {
-        Time edge = largestStamp(s.table, e.tn);
+        Time edge = largestStamp(s.table, s.books, e.tn);
         if (v && e.kind == ACTIVATES && d.chance(50)) edge = v->newDue;
         if (v && (e.kind == REPLY || e.kind == SILENCE)) edge = v->start;
         if (edge > 1) e.time = d.chance(70) ? edge - 1 : d.between(1, edge - 1);
@@ -378,7 +415,7 @@ inline Event spoilt(Dice &d, const Situation &s, Event e) {
         if (named.other) e.other = d.chance(60) ? anyPresent(d, s) : d.between(1, PROVIDERS);
         break;
     case 7:  // the worked version once more: a second create, a second cancel, a second window
-        v = workedVersion(s.table, e.tn);
+        v = workedVersion(s.table, s.books, e.tn);
         if (!v || d.chance(40)) {
             e = aCreate(d, s, e.tn);
             if (d.chance(50)) (e.kind == NEW_CREATES ? e.sender : e.other) = anyPresent(d, s);
@@ -387,7 +424,7 @@ inline Event spoilt(Dice &d, const Situation &s, Event e) {
         e = plain(d.chance(60) ? ACKNOWLEDGES : WINDOW_RAN_OUT, *v, NPAC);
         if (e.kind == ACKNOWLEDGES) e.sender = v->canceller == NEW_SIDE ? v->newProvider : v->oldProvider;
         e = filled(d, s, e, 0);
-        if (d.chance(30)) e.time = std::max<Time>(1, largestStamp(s.table, e.tn) - 1);
+        if (d.chance(30)) e.time = std::max<Time>(1, largestStamp(s.table, s.books, e.tn) - 1);
         return e;
     case 6:
         e.tn.digits = d.chance(50) ? anyTenDigits(d) : e.tn.digits / 10 * 10 + d.below(10);
@@ -403,11 +440,12 @@ inline Event spoilt(Dice &d, const Situation &s, Event e) {
     return e;
 }
 
-// A well-formed event, accepted more often than not.
+// A well-formed event, accepted more often than not. Those for a version, now and then a create too, have any of its line's names.
 inline Event nextEvent(Dice &d, const Situation &s, uint64_t good) {
     for (;;) {
         Tn tn = d.pick(s.tns);
         Event e = d.chance(good) ? sensible(d, s, tn) : d.chance(40) ? anyEvent(d, s, tn) : spoilt(d, s, sensible(d, s, tn));
+        if (e.kind > OLD_CREATES || d.chance(10)) e.tn = anyName(d, s.books, e.tn);
         if (wellFormed(e)) return e;
     }
 }

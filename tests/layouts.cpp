@@ -36,7 +36,7 @@ void row() {
     example("row", packed,
             "2d3bb46500005b802d3bb44c02050020" "00000064000000640000006800000000" "000000000000000e0000000000000000"
             "00000000000000000000000000000000" "00000000000000000000000000000000",
-            back && sound(*back) && textOf(*back) == textOf(Table{{v}, 0}));
+            back && sound(*back, Books()) && textOf(*back) == textOf(Table{{v}, 0}));
 }
 
 void books() {

@@ -14,6 +14,8 @@
 #include <utility>
 #include <vector>
 
+#include "sizes.h"  // ONE_LINE, and nothing else
+
 // The stand-in (stand_in.cpp) takes this file a second time, under another name and perhaps with a mistake in it.
 #ifndef MODEL
 #define MODEL paper
@@ -105,6 +107,22 @@ inline bool soundSplits(const Books &b) {
 }
 
 inline bool sound(const Books &b) { return soundProviders(b) && soundCodes(b) && soundFilters(b) && soundSplits(b); }
+
+// The other code of a split pair.
+inline std::optional<Code> partnerOf(const Books &b, Code code) {
+    for (const SplitEntry &s : b.splits) {
+        if (s.one == code) return s.two;
+        if (s.two == code) return s.one;
+    }
+    return std::nullopt;
+}
+
+// [A3.1] The line that a TN names: the TN, or in a split pair the TN under the smaller of the two codes. By the split list alone.
+inline Tn lineOf(const Books &b, Tn tn) {
+    std::optional<Code> partner = ONE_LINE ? partnerOf(b, codeOf(tn)) : std::nullopt;
+    if (!partner || codeOf(tn) < *partner) return tn;
+    return Tn{*partner * 10000 + tn.digits % 10000};
+}
 
 // ---- The version table ----------------------------------------------------------------------------------------------------------------
 
@@ -227,15 +245,27 @@ inline bool soundBroadcast(const Version &v) {
 
 inline bool sound(const Version &v) { return inRange(v) && soundSides(v) && soundBroadcast(v); }
 
-// [V11] Per TN at most one live, one sending and one worked version. The rows rise, so those of a TN stand together.
-inline bool soundCounts(const std::vector<Version> &used) {
-    int live = 0, sending = 0, workedOnes = 0;
-    for (size_t i = 0; i < used.size(); i++) {
-        if (i == 0 || used[i - 1].tn != used[i].tn) live = sending = workedOnes = 0;
-        live += used[i].live;
-        sending += used[i].status == SENDING;
-        workedOnes += worked(used[i]);
+// [V11] [A3.5] Per line at most one live, one sending and one worked version.
+struct Counts { int live = 0, sending = 0, worked = 0; };
+
+inline bool soundCounts(const std::vector<Version> &used, const Books &b) {
+    std::map<Tn, Counts> lines;
+    for (const Version &v : used) {
+        auto &[live, sending, workedOnes] = lines[lineOf(b, v.tn)];
+        live += v.live;
+        sending += v.status == SENDING;
+        workedOnes += worked(v);
         if (live > 1 || sending > 1 || workedOnes > 1) return false;
+    }
+    return true;
+}
+
+// [A3.5] No two versions of a line share a number. Under one name the order of the rows sees to that.
+inline bool soundNumbers(const std::vector<Version> &used, const Books &b) {
+    std::map<std::pair<Tn, uint64_t>, Tn> names;
+    for (const Version &v : used) {
+        Tn name = names.insert({{lineOf(b, v.tn), v.number}, v.tn}).first->second;
+        if (name != v.tn) return false;
     }
     return true;
 }
@@ -243,14 +273,16 @@ inline bool soundCounts(const std::vector<Version> &used) {
 // [T2] By TN and then version number.
 inline bool rising(const Version &a, const Version &b) { return a.tn < b.tn || (a.tn == b.tn && a.number < b.number); }
 
-// [T1] [T2]
-inline bool sound(const Table &t) {
+// [T1] [T2] [A3.5] The books say what a line is. Where they are none or unsound each TN is judged alone: the whole is unsound anyway.
+inline bool sound(const Table &t, const std::optional<Books> &b) {
+    static const Books none;
+    const Books &books = b && sound(*b) ? *b : none;
     if (t.used.size() + t.freeRows > 4096) return false;
     for (size_t i = 0; i < t.used.size(); i++) {
         if (!sound(t.used[i])) return false;
         if (i > 0 && !rising(t.used[i - 1], t.used[i])) return false;
     }
-    return soundCounts(t.used);
+    return soundCounts(t.used, books) && soundNumbers(t.used, books);
 }
 
 // ---- The event record -----------------------------------------------------------------------------------------------------------------
@@ -303,45 +335,49 @@ inline bool wellFormed(const Event &e) {
     return true;
 }
 
-// ---- Looking at a TN's versions -------------------------------------------------------------------------------------------------------
+// ---- Looking at a line's versions -----------------------------------------------------------------------------------------------------
 
-inline std::vector<const Version *> versionsOf(const Table &t, Tn tn) {
+// [A3.2] [A3.3] A TN names its line: what is asked of a TN below is asked of all versions of the line, under whichever name each stands, in
+// the order of the table.
+inline std::vector<const Version *> versionsOf(const Table &t, const Books &b, Tn tn) {
     std::vector<const Version *> found;
+    Tn line = lineOf(b, tn);
     for (const Version &v : t.used)
-        if (v.tn == tn) found.push_back(&v);
+        if (lineOf(b, v.tn) == line) found.push_back(&v);
     return found;
 }
 
-inline const Version *findVersion(const Table &t, Tn tn, uint64_t number) {
-    for (const Version &v : t.used)
-        if (v.tn == tn && v.number == number) return &v;
+inline const Version *findVersion(const Table &t, const Books &b, Tn tn, uint64_t number) {
+    for (const Version *v : versionsOf(t, b, tn))
+        if (v->number == number) return v;
     return nullptr;
 }
 
-inline Version *findVersion(Table &t, Tn tn, uint64_t number) {
-    return const_cast<Version *>(findVersion(const_cast<const Table &>(t), tn, number));
+inline Version *findVersion(Table &t, const Books &b, Tn tn, uint64_t number) {
+    return const_cast<Version *>(findVersion(const_cast<const Table &>(t), b, tn, number));
 }
 
-inline const Version *workedVersion(const Table &t, Tn tn) {
-    for (const Version *v : versionsOf(t, tn))
+inline const Version *workedVersion(const Table &t, const Books &b, Tn tn) {
+    for (const Version *v : versionsOf(t, b, tn))
         if (worked(*v)) return v;
     return nullptr;
 }
 
 // The number of the newest version, 0 where there is none.
-inline uint64_t newest(const Table &t, Tn tn) {
+inline uint64_t newest(const Table &t, const Books &b, Tn tn) {
     uint64_t largest = 0;
-    for (const Version *v : versionsOf(t, tn)) largest = std::max(largest, v->number);
+    for (const Version *v : versionsOf(t, b, tn)) largest = std::max(largest, v->number);
     return largest;
 }
 
-inline Time largestStamp(const Table &t, Tn tn) {
+inline Time largestStamp(const Table &t, const Books &b, Tn tn) {
     Time largest = 0;
-    for (const Version *v : versionsOf(t, tn)) largest = std::max(largest, v->stamp);
+    for (const Version *v : versionsOf(t, b, tn)) largest = std::max(largest, v->stamp);
     return largest;
 }
 
-// [C1] The current provider: the live version's new provider, else the code's owner. 0 where there is neither.
+// [C1] The current provider: the live version's new provider, else the code's owner. 0 where there is neither. [A3.4] The code is that of
+// the TN as the event has it, whatever names the versions have.
 inline Provider ownerOf(const Books &b, Code code) {
     for (const CodeEntry &c : b.codes)
         if (c.code == code) return c.owner;
@@ -349,7 +385,7 @@ inline Provider ownerOf(const Books &b, Code code) {
 }
 
 inline Provider currentProvider(const Table &t, const Books &b, Tn tn) {
-    for (const Version *v : versionsOf(t, tn))
+    for (const Version *v : versionsOf(t, b, tn))
         if (v->live) return v->newProvider;
     return ownerOf(b, codeOf(tn));
 }
@@ -362,8 +398,8 @@ enum Outcome : uint64_t {
 };
 
 // [R2] Too early, kinds other than 11 and 12. The new due date binds activation alone.
-inline bool tooEarly(const Table &t, const Event &e, const Version *v) {
-    if (e.time < largestStamp(t, e.tn)) return true;
+inline bool tooEarly(const Table &t, const Books &b, const Event &e, const Version *v) {
+    if (e.time < largestStamp(t, b, e.tn)) return true;
     return e.kind == ACTIVATES && e.time < v->newDue;
 }
 
@@ -398,18 +434,18 @@ inline bool statusAllows(const Version &v, const Event &e) {
     }
 }
 
-// [Q1] A sending version of the TN, other than the one given.
-inline bool sendingBeside(const Table &t, Tn tn, const Version *self) {
-    for (const Version *v : versionsOf(t, tn))
+// [Q1] A sending version of the line, other than the one given.
+inline bool sendingBeside(const Table &t, const Books &b, Tn tn, const Version *self) {
+    for (const Version *v : versionsOf(t, b, tn))
         if (v != self && v->status == SENDING) return true;
     return false;
 }
 
-inline bool busy(const Table &t, const Version &v, const Event &e) {
+inline bool busy(const Table &t, const Books &b, const Version &v, const Event &e) {
     switch (e.kind) {
-    case ACTIVATES: case MODIFIES_ACTIVE: case DISCONNECTS: return sendingBeside(t, e.tn, &v);
-    case RESEND: return sendingBeside(t, e.tn, &v) || (v.status == FAILED && newest(t, e.tn) > v.number);
-    case PURGE: return newest(t, e.tn) == v.number;
+    case ACTIVATES: case MODIFIES_ACTIVE: case DISCONNECTS: return sendingBeside(t, b, e.tn, &v);
+    case RESEND: return sendingBeside(t, b, e.tn, &v) || (v.status == FAILED && newest(t, b, e.tn) > v.number);
+    case PURGE: return newest(t, b, e.tn) == v.number;
     default: return false;
     }
 }
@@ -436,22 +472,22 @@ inline Time firstDue(const Version &v, const Event &e) { return e.kind == NEW_CR
 // [O6] [A4.2] Order for creates: 4, 10, 8, 12, 9, 18, 14, 13.
 inline Outcome outcomeOfCreate(const Table &t, const Books &b, const Event &e) {
     if (ownerOf(b, codeOf(e.tn)) == 0) return UNLISTED;
-    if (sendingBeside(t, e.tn, nullptr)) return BUSY;
-    if (tooEarly(t, e, nullptr)) return EARLY;
+    if (sendingBeside(t, b, e.tn, nullptr)) return BUSY;
+    if (tooEarly(t, b, e, nullptr)) return EARLY;
     Provider oldSide = e.kind == NEW_CREATES ? e.other : e.sender;
     if (oldSide != currentProvider(t, b, e.tn)) return NOT_CURRENT;
-    const Version *v = workedVersion(t, e.tn);
+    const Version *v = workedVersion(t, b, e.tn);
     if (v && !fits(*v, e)) return UNFIT;
     if (v && e.due != firstDue(*v, e)) return ANOTHER_DUE;
     if (v) return DONE;
-    if (newest(t, e.tn) == 65535) return EXHAUSTED;
+    if (newest(t, b, e.tn) == 65535) return EXHAUSTED;
     if (t.freeRows == 0) return FULL;
     return DONE;
 }
 
 // [O7] Order for kinds 11 and 12: 5, 11, 8. [R1] [W1]
-inline Outcome outcomeOfAnswer(const Table &t, const Event &e) {
-    const Version *v = findVersion(t, e.tn, e.version);
+inline Outcome outcomeOfAnswer(const Table &t, const Books &b, const Event &e) {
+    const Version *v = findVersion(t, b, e.tn, e.version);
     if (!v) return UNKNOWN;
     Provider system = e.kind == REPLY ? e.sender : e.other;
     if (!v->waiting.count(system)) return UNAWAITED;
@@ -460,13 +496,13 @@ inline Outcome outcomeOfAnswer(const Table &t, const Event &e) {
 }
 
 // [O8] Order for all others: 5, 6, 7, 10, 8, 11.
-inline Outcome outcomeOfOther(const Table &t, const Event &e) {
-    const Version *v = findVersion(t, e.tn, e.version);
+inline Outcome outcomeOfOther(const Table &t, const Books &b, const Event &e) {
+    const Version *v = findVersion(t, b, e.tn, e.version);
     if (!v) return UNKNOWN;
     if (!standing(*v, e)) return STANDLESS;
     if (!statusAllows(*v, e)) return MISPLACED;
-    if (busy(t, *v, e)) return BUSY;
-    if (tooEarly(t, e, v)) return EARLY;
+    if (busy(t, b, *v, e)) return BUSY;
+    if (tooEarly(t, b, e, v)) return EARLY;
     if (unawaited(*v, e)) return UNAWAITED;
     return DONE;
 }
@@ -476,8 +512,8 @@ inline Outcome outcomeOf(const Table &t, const Books &b, const Event &e) {
     if (e.sender != NPAC && !present(b, e.sender)) return ABSENT;
     if (e.other != 0 && !present(b, e.other)) return ABSENT;
     if (e.kind == NEW_CREATES || e.kind == OLD_CREATES) return outcomeOfCreate(t, b, e);
-    if (e.kind == REPLY || e.kind == SILENCE) return outcomeOfAnswer(t, e);
-    return outcomeOfOther(t, e);
+    if (e.kind == REPLY || e.kind == SILENCE) return outcomeOfAnswer(t, b, e);
+    return outcomeOfOther(t, b, e);
 }
 
 // ---- The tray -------------------------------------------------------------------------------------------------------------------------
@@ -499,6 +535,7 @@ struct Message {
 };
 using Messages = std::vector<Message>;
 
+// [A3.7] A message has the version's TN, whatever name the event used.
 inline Message messageOf(const Version &v, Provider to, Sort sort) {
     Message m;
     m.provider = to;
@@ -541,7 +578,7 @@ inline void tellClosing(Messages &out, const Version &v, Purpose purpose) {
 
 // ---- Rules by kind: what is done ------------------------------------------------------------------------------------------------------
 
-// [C2] [C3] [C4] A fresh version or a concurrence. [Y3] [Y4]
+// [C2] [C3] [C4] A fresh version or a concurrence. [Y3] [Y4] [A3.3] A fresh one takes the event's TN, every other version keeps its own.
 inline void takeValues(Version &v, const Event &e) {
     if (e.kind == NEW_CREATES) {
         v.newCreated = true;
@@ -564,9 +601,9 @@ inline void putInOrder(Table &t, const Version &v) {
     t.freeRows--;
 }
 
-inline void create(Table &t, const Event &e, Messages &out) {
-    if (const Version *found = workedVersion(t, e.tn)) {
-        Version &v = *findVersion(t, e.tn, found->number);
+inline void create(Table &t, const Books &b, const Event &e, Messages &out) {
+    if (const Version *found = workedVersion(t, b, e.tn)) {
+        Version &v = *findVersion(t, b, e.tn, found->number);
         Status before = v.status;
         takeValues(v, e);
         tellChange(out, v, before);
@@ -574,7 +611,7 @@ inline void create(Table &t, const Event &e, Messages &out) {
     }
     Version v;
     v.tn = e.tn;
-    v.number = newest(t, e.tn) + 1;
+    v.number = newest(t, b, e.tn) + 1;
     v.status = PENDING;
     v.newProvider = e.kind == NEW_CREATES ? e.sender : e.other;
     v.oldProvider = e.kind == NEW_CREATES ? e.other : e.sender;
@@ -642,14 +679,6 @@ inline bool hasFilter(const Books &b, Provider p, Code code) {
     return false;
 }
 
-inline std::optional<Code> partnerOf(const Books &b, Code code) {
-    for (const SplitEntry &s : b.splits) {
-        if (s.one == code) return s.two;
-        if (s.two == code) return s.one;
-    }
-    return std::nullopt;
-}
-
 // [A8.1] What selection gives a provider for a TN. Asked is whether it is present, then whether it runs a Local SMS, then its filters.
 enum Class : uint8_t { SELECTED = 0, NOT_PRESENT = 1, NO_LOCAL_SMS = 2, FILTER_ON_THE_ONLY_CODE = 3, FILTERS_ON_BOTH_CODES = 4 };
 
@@ -674,8 +703,8 @@ inline void becomeOld(Version &v) {
     v.purpose = NO_PURPOSE;
 }
 
-// [W3] [W4] The broadcast closes; the version's stamp is that of this event already.
-inline void close(Table &t, Version &v, Messages &out) {
+// [W3] [W4] The broadcast closes; the version's stamp is that of this event already. [A3.2] The other live version is the line's.
+inline void close(Table &t, const Books &b, Version &v, Messages &out) {
     Purpose purpose = v.purpose;
     bool allDone = v.failed.empty(), allFailed = !allDone && v.confirmed.empty();
     v.start = 0;
@@ -684,7 +713,7 @@ inline void close(Table &t, Version &v, Messages &out) {
         if (!allFailed) {
             v.live = true;
             for (Version &other : t.used)
-                if (other.tn == v.tn && other.number != v.number && other.live) {
+                if (lineOf(b, other.tn) == lineOf(b, v.tn) && other.number != v.number && other.live) {
                     becomeOld(other);
                     other.stamp = v.stamp;
                 }
@@ -716,11 +745,11 @@ inline void broadcast(Table &t, const Books &b, Version &v, const Event &e, Mess
     v.retries.clear();
     v.waiting = asked;
     for (Provider p : asked) out.push_back(download(v, p));
-    if (asked.empty()) close(t, v, out);
+    if (asked.empty()) close(t, b, v, out);
 }
 
 // [W1] [W2]
-inline void answer(Table &t, uint64_t R, Version &v, const Event &e, Messages &out) {
+inline void answer(Table &t, const Books &b, uint64_t R, Version &v, const Event &e, Messages &out) {
     Provider system = e.kind == REPLY ? e.sender : e.other;
     v.stamp = std::max(v.stamp, e.time);
     uint64_t used = v.retries.count(system) ? v.retries[system] : 0;
@@ -733,7 +762,7 @@ inline void answer(Table &t, uint64_t R, Version &v, const Event &e, Messages &o
     v.retries.erase(system);
     bool success = e.kind == REPLY && e.mark == 1;
     (success ? v.confirmed : v.failed).insert(system);
-    if (v.waiting.empty()) close(t, v, out);
+    if (v.waiting.empty()) close(t, b, v, out);
 }
 
 // [U1]
@@ -746,17 +775,17 @@ inline void purge(Table &t, const Version *v) {
 inline Messages done(Table &t, const Books &b, uint64_t R, const Event &e) {
     Messages out;
     if (e.kind == NEW_CREATES || e.kind == OLD_CREATES) {
-        create(t, e, out);
+        create(t, b, e, out);
         return out;
     }
-    Version &v = *findVersion(t, e.tn, e.version);
+    Version &v = *findVersion(t, b, e.tn, e.version);
     if (e.kind != REPLY && e.kind != SILENCE && e.kind != PURGE) v.stamp = e.time;
     switch (e.kind) {
     case NEW_MODIFIES: case OLD_MODIFIES: modify(v, e, out); break;
     case CANCELS: case ACKNOWLEDGES: case RESOLVES: cancelOrResolve(v, e, out); break;
     case WINDOW_RAN_OUT: windowRunsOut(v, out); break;
     case ACTIVATES: case MODIFIES_ACTIVE: case DISCONNECTS: case RESEND: broadcast(t, b, v, e, out); break;
-    case REPLY: case SILENCE: answer(t, R, v, e, out); break;
+    case REPLY: case SILENCE: answer(t, b, R, v, e, out); break;
     default: purge(t, &v);
     }
     return out;
@@ -772,7 +801,7 @@ struct Result {
 // A table or books that are no value at all are given as nothing, a record that is none likewise. [O2] comes before [O9].
 inline Result step(std::optional<Table> &t, const std::optional<Books> &b, uint64_t R, const std::optional<Event> &e, size_t trayPlaces) {
     Result r;
-    if (!t || !sound(*t) || !b || !sound(*b) || R > 7 || trayPlaces < 64) r.outcome = UNSOUND;
+    if (!t || !sound(*t, b) || !b || !sound(*b) || R > 7 || trayPlaces < 64) r.outcome = UNSOUND;
     else if (!e || !wellFormed(*e)) r.outcome = MALFORMED;
     else r.outcome = outcomeOf(*t, *b, *e);
     if (r.outcome == DONE) r.messages = done(*t, *b, R, *e);
