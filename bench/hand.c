@@ -2,7 +2,8 @@
  * Document 01 by hand, for speed: the same calls on the same bytes (docs/LAYOUTS.md), written from the paper and not from the library.
  *
  * The soundness of the table is one pass with one load a word and, but for retries, no branch that goes either way in sound tables; a
- * number's rows are found by bisection; rows and messages are written word by word; rows move by memmove.
+ * number's rows are found by bisection; rows and messages are written word by word; rows move by memmove. With ONE_LINE (request A3, see
+ * tests/sizes.h) the rows of a line in a split pair are found by two bisections, and the pass is followed by a merge for each pair.
  */
 #include "hand.h"
 #include "sizes.h"
@@ -126,7 +127,7 @@ static const uint64_t FITS[STATUS_VALUES] = {
 #define NOBODY ((uint64_t)1)
 #endif
 
-/* What a number may have once: a sending version 2, a worked one 4; live is 1. */
+/* What a line may have once: a sending version 2, a worked one 4; live is 1. */
 static const uint8_t ONCE[STATUS_VALUES] = {[PENDING] = 4, [CONFLICT] = 4, [CANCEL_PENDING] = 4, [SENDING] = 2};
 
 /* The lowest 21 bits, each to the lowest of its three. */
@@ -251,6 +252,82 @@ static bool check_books(const uint8_t *providers, size_t providers_length, const
     return true;
 }
 
+/* ---- Soundness of the lines ---- */
+
+/* Of so many used rows the first whose key (TN and number) is not below the given one. */
+static const uint8_t *first_from(const uint8_t *base, size_t n, uint64_t key)
+{
+    if (n == 0) return base;
+    while (n > 1) {
+        size_t half = n / 2;
+        base = load64(base + ROW * half - ROW) >> 14 < key ? base + ROW * half : base;
+        n -= half;
+    }
+    return load64(base) >> 14 < key ? base + ROW : base;
+}
+
+/* A code's rows from one on, up to the end of the used ones; the row's last four digits and number, or PAST where the code's rows end. */
+typedef struct {
+    const uint8_t *at, *end;
+    uint64_t base, place;
+} range_t;
+
+#define PAST ((uint64_t)10000 << 16)
+
+static inline void look(range_t *r)
+{
+    uint64_t place = r->at == r->end ? PAST : (load64(r->at) >> 14) - r->base;
+    r->place = place < PAST ? place : PAST;
+}
+
+static inline range_t range_of(const uint8_t *rows, size_t used, uint64_t code)
+{
+    uint64_t base = code * 10000 << 16;
+    range_t r = {first_from(rows, used, base), rows + ROW * used, base, 0};
+    look(&r);
+    return r;
+}
+
+/* On to the next row. Answered is what the line may have once and this row has. */
+static inline unsigned pass(range_t *r)
+{
+    uint64_t w0 = load64(r->at);
+    r->at += ROW;
+    look(r);
+    return ONCE[w0 >> 10 & 15] | (w0 >> 9 & 1);
+}
+
+/*
+ * Each pair's two ranges merged by the last four digits. In a line that both have, their marks do not meet and their numbers differ; the
+ * pass over the table has seen to each name's own. Of a row only the first word is read.
+ */
+static bool check_lines(const uint8_t *rows, size_t used, const books_t *b)
+{
+    for (size_t i = 0; i < b->splits; i++) {
+        uint64_t pair = load64(b->at + SPLITS_AT + 8 * i);
+        range_t one = range_of(rows, used, pair >> 32);
+        if (one.place == PAST) continue;
+        range_t two = range_of(rows, used, (uint32_t)pair);
+        while (one.place != PAST && two.place != PAST) {
+            uint64_t line = one.place >> 16, other = two.place >> 16;
+            if (line < other) {
+                pass(&one);
+            } else if (line > other) {
+                pass(&two);
+            } else {
+                unsigned by_one = 0, by_two = 0;
+                while (one.place >> 16 == line || two.place >> 16 == line) {
+                    if (one.place == two.place) return false;
+                    if (one.place < two.place) by_one |= pass(&one);
+                    else by_two |= pass(&two);
+                }
+                if ((by_one & by_two) != 0) return false;
+            }
+        }
+    }
+    return true;
+}
+
 /* ---- Asking the books ---- */
 
 /* 0 where the code is not listed. */
@@ -278,6 +355,13 @@ static uint32_t partner_of(const books_t *b, uint32_t code)
         if ((uint32_t)pair == code) return (uint32_t)(pair >> 32);
     }
     return 0;
+}
+
+/* The other name of a TN's line, 0 where it has none. */
+static inline uint64_t other_name(const books_t *b, uint64_t tn)
+{
+    uint64_t partner = ONE_LINE ? partner_of(b, (uint32_t)(tn / 10000)) : 0;
+    return partner == 0 ? 0 : partner * 10000 + tn % 10000;
 }
 
 /* A code as it stands in a filter's place, without the provider. */
@@ -397,7 +481,7 @@ uint8_t hand_record_write(uint64_t kind, uint64_t sender, uint64_t other, uint64
     return 0;
 }
 
-/* ---- A number's rows ---- */
+/* ---- A line's rows ---- */
 
 typedef struct {
     uint8_t *rows;
@@ -406,41 +490,49 @@ typedef struct {
     uint64_t retries;
 } engine_t;
 
-/* The first used row whose key (TN and number) is not below the given one. */
-static uint8_t *row_from(const engine_t *g, uint64_t key)
+/* The first used row whose key is not below the given one. */
+static inline uint8_t *row_from(const engine_t *g, uint64_t key)
 {
-    uint8_t *base = g->rows;
-    size_t n = g->used;
-    if (n == 0) return base;
-    while (n > 1) {
-        size_t half = n / 2;
-        base = load64(base + ROW * half - ROW) >> 14 < key ? base + ROW * half : base;
-        n -= half;
-    }
-    return load64(base) >> 14 < key ? base + ROW : base;
+    return g->rows + (first_from(g->rows, g->used, key) - g->rows);
+}
+
+/* The row of this name and number, null where there is none. */
+static inline uint8_t *row_of(const engine_t *g, uint64_t tn, uint64_t version)
+{
+    uint64_t key = tn << 16 | version;
+    uint8_t *row = row_from(g, key);
+    return row == g->rows + ROW * g->used || load64(row) >> 14 != key ? NULL : row;
 }
 
 typedef struct {
-    uint8_t *end, *live, *sending, *worked, *asked;  /* null where there is none; end is behind the last row */
+    uint8_t *end, *live, *sending, *worked, *asked;  /* null where there is none; end is behind the last row of the event's own name */
     uint64_t newest, stamp;
 } survey_t;
 
-static void survey(const engine_t *g, uint64_t tn, uint64_t version, survey_t *s)
+/* The rows of one name; answered is what is behind the last. */
+static inline uint8_t *survey_name(const engine_t *g, uint64_t tn, uint64_t version, survey_t *s)
 {
     uint8_t *at = row_from(g, tn << 16), *end = g->rows + ROW * g->used;
-    memset(s, 0, sizeof *s);
     for (; at != end; at += ROW) {
-        uint64_t w0 = load64(at), stamp = load64(at + 24) >> 32;
+        uint64_t w0 = load64(at), stamp = load64(at + 24) >> 32, number = w0 >> 14 & 0xffff;
         if (w0 >> 30 != tn) break;
         unsigned status = w0 >> 10 & 15;
-        s->newest = w0 >> 14 & 0xffff;
+        if (number > s->newest) s->newest = number;
         if (stamp > s->stamp) s->stamp = stamp;
         if (w0 >> 9 & 1) s->live = at;
         if (status == SENDING) s->sending = at;
         if (status <= CANCEL_PENDING) s->worked = at;
-        if (s->newest == version) s->asked = at;
+        if (number == version) s->asked = at;
     }
-    s->end = at;
+    return at;
+}
+
+static void survey(const engine_t *g, uint64_t tn, uint64_t version, survey_t *s)
+{
+    uint64_t other = other_name(&g->books, tn);
+    memset(s, 0, sizeof *s);
+    s->end = survey_name(g, tn, version, s);
+    if (other != 0) survey_name(g, other, version, s);
 }
 
 /* ---- Writing ---- */
@@ -483,8 +575,8 @@ static inline uint8_t *download(uint8_t *tray, uint64_t w0, uint64_t w1, unsigne
     return tell(tray, w0, provider, DOWNLOAD_CREATE + (w1 >> 5 & 3) - 1, (w1 & ~(uint64_t)0x3fffffff) | 1 << 29, 0);
 }
 
-/* The other live row of this one's number turns old with the given stamp. */
-static void retire(const engine_t *g, uint8_t *self, uint64_t tn, uint64_t stamp)
+/* The live row of this name, other than one given, turns old with the given stamp. */
+static inline void retire_name(const engine_t *g, const uint8_t *self, uint64_t tn, uint64_t stamp)
 {
     uint8_t *end = g->rows + ROW * g->used;
     for (uint8_t *at = row_from(g, tn << 16); at != end; at += ROW) {
@@ -496,6 +588,13 @@ static void retire(const engine_t *g, uint8_t *self, uint64_t tn, uint64_t stamp
         store64(at + 24, stamp << 32 | (uint32_t)load64(at + 24));
         return;
     }
+}
+
+static void retire(const engine_t *g, const uint8_t *self, uint64_t tn, uint64_t stamp)
+{
+    uint64_t other = other_name(&g->books, tn);
+    retire_name(g, self, tn, stamp);
+    if (other != 0) retire_name(g, self, other, stamp);
 }
 
 /* The last answer is in: status by purpose and sets, the start cleared, the sides told. */
@@ -528,7 +627,7 @@ static uint8_t *close(const engine_t *g, uint8_t *row, uint64_t w0, uint64_t w1,
 
 static uint8_t *broadcast(const engine_t *g, uint8_t *row, uint64_t w0, uint64_t w1, const event_t *e, uint8_t *tray)
 {
-    uint64_t asked = selected(&g->books, (uint32_t)(e->tn / 10000)), confirmed = 0;
+    uint64_t asked = selected(&g->books, (uint32_t)((w0 >> 30) / 10000)), confirmed = 0;
     if (e->kind == RESEND) {
         asked &= load64(row + 48);
         confirmed = load64(row + 32);
@@ -604,9 +703,11 @@ static unsigned create(engine_t *g, const event_t *e, uint8_t **tray)
 
 static unsigned answer(const engine_t *g, const event_t *e, uint8_t **tray)
 {
-    uint64_t key = e->tn << 16 | e->version, bit = (uint64_t)1 << (e->kind == REPLY ? e->sender : e->other);
-    uint8_t *row = row_from(g, key);
-    if (row == g->rows + ROW * g->used || load64(row) >> 14 != key) return 5;
+    uint64_t other = 0, bit = (uint64_t)1 << (e->kind == REPLY ? e->sender : e->other);
+    uint8_t *row = row_of(g, e->tn, e->version);
+    if (row == NULL) other = other_name(&g->books, e->tn);
+    if (other != 0) row = row_of(g, other, e->version);
+    if (row == NULL) return 5;
     uint64_t waiting = load64(row + 40), w3 = load64(row + 24);
     if ((waiting & bit) == 0) return 11;
     if (e->time < (uint32_t)w3) return 8;
@@ -765,7 +866,7 @@ static bool begin(engine_t *g, uint8_t *table, size_t table_length, const uint8_
     if (retries > MOST_RETRIES || tray_length / MESSAGE < PLACES) return false;
     if (!check_books(providers, providers_length, books, books_length, &g->books)) return false;
     ptrdiff_t used = check_table(table, table_length);
-    if (used < 0) return false;
+    if (used < 0 || (ONE_LINE && !check_lines(table, (size_t)used, &g->books))) return false;
     g->rows = table;
     g->used = (size_t)used;
     g->all = table_length / ROW;
@@ -815,9 +916,14 @@ lupinenblatt_ran hand_run(uint8_t *table, size_t table_length, const uint8_t *pr
     return ran;
 }
 
-lupinenblatt_answer hand_table_check(const uint8_t *table, size_t table_length)
+/* Unsound books say nothing of lines. */
+lupinenblatt_answer hand_table_check(const uint8_t *table, size_t table_length, const uint8_t *providers, size_t providers_length,
+                                     const uint8_t *books, size_t books_length)
 {
+    books_t b;
     ptrdiff_t used = check_table(table, table_length);
+    if (ONE_LINE && used > 0 && check_books(providers, providers_length, books, books_length, &b) && !check_lines(table, (size_t)used, &b))
+        used = -1;
     lupinenblatt_answer a = {used < 0, used < 0 ? 0 : (uint64_t)used};
     return a;
 }
