@@ -207,6 +207,18 @@ void mustAgree(bool agree, const std::string &what) {
 
 // ---- Soundness ----
 
+// The table's check on these slices.
+Measured planCheck(const std::shared_ptr<Lent> &l, const std::string &name) {
+    size_t length = l->tableAt.size(), times = MOST_ROWS * ROW / length;
+    auto call = [l](auto check) {
+        return check(l->tableAt.data(), l->tableAt.size(), l->providers.data(), l->providers.size(), l->books.data(), l->books.size());
+    };
+    lupinenblatt_answer a = call(checkTable), b = call(hand_table_check);
+    mustAgree(a.outcome == b.outcome && a.count == b.count, name);
+    return plan(100, [l] {}, {often(times, [=] { sink = call(checkTable).count; }), often(times, [=] { sink = call(hand_table_check).count; }),
+                              often(times, [=] { sink = plain_pass(l->tableAt.data(), length); })});
+}
+
 // All rows of a table used, the same with a spare bit in the last row, and all rows free.
 void soundness(const std::vector<Situation> &situations) {
     const std::vector<std::string> names = {"soundness: all rows used", "soundness: unsound in the last row", "soundness: all rows free"};
@@ -217,13 +229,7 @@ void soundness(const std::vector<Situation> &situations) {
             if (way == 2) s.table.used.clear();
             auto l = std::make_shared<Lent>(s, SIZES[i], PLACES, Bytes());
             if (way == 1) l->tableAt[(SIZES[i] - 1) * ROW + 7] |= 1;
-            const uint8_t *t = l->tableAt.data();
-            size_t length = l->tableAt.size(), times = MOST_ROWS / SIZES[i];
-            lupinenblatt_answer a = lupinenblatt_table_check(t, length), b = hand_table_check(t, length);
-            mustAgree(a.outcome == b.outcome && a.count == b.count, names[way]);
-            cells.push_back(plan(100, [l] {}, {often(times, [=] { sink = lupinenblatt_table_check(t, length).count; }),
-                                               often(times, [=] { sink = hand_table_check(t, length).count; }),
-                                               often(times, [=] { sink = plain_pass(t, length); })}));
+            cells.push_back(planCheck(l, names[way]));
         }
         addRow(names[way], cells);
     }
@@ -375,6 +381,65 @@ void steps(const std::vector<Situation> &situations) {
         meanRow("step, all done, geometric mean", done);
         meanRow("step, all refused, geometric mean", refused);
     });
+}
+
+// ---- Lines in split pairs ----
+
+// 4,096 used rows, so many of them of lines in so many split pairs, most of those lines under both names.
+Situation makeLines(size_t pairs, size_t inPairs) {
+    Dice d(29);
+    Situation s;
+    std::vector<Code> codes;
+    std::set<Tn> known;
+    makeBooks(d, s, {20, 256, 64, pairs, false}, codes);
+    s.R = 2, s.base = 1000;
+    while (s.table.used.size() < MOST_ROWS) {
+        size_t most = s.table.used.size() < inPairs ? inPairs : MOST_ROWS;
+        Tn tn{(most == inPairs ? d.pick(s.books.splits).one : d.pick(codes)) * 10000 + d.below(10000)};
+        if (!known.insert(tn).second) continue;
+        makeVersionsOf(d, s, namesOf(s.books, tn), s.table.used);
+        if (s.table.used.size() > most) s.table.used.resize(most);
+    }
+    sortRows(s.table.used);
+    if (!sound(s.books) || !sound(s.table, s.books)) std::puts("bench: an unsound situation was made"), std::exit(2);
+    return s;
+}
+
+const std::vector<std::pair<std::string, std::pair<size_t, size_t>>> LINES = {
+    {"0 pairs", {0, 0}},
+    {"8 pairs, 512 rows in them", {8, 512}},
+    {"64 pairs, no rows in them", {SPLITS, 0}},
+    {"64 pairs, all rows in them", {SPLITS, MOST_ROWS}},
+};
+
+// An event of this kind that is done, on a line in a pair; under the row's other name where that is the same line.
+std::optional<Event> onLine(const Situation &s, uint64_t kind) {
+    Dice d(31);
+    for (const Version &v : s.table.used) {
+        std::vector<Event> moves;
+        if (otherName(s.books, v.tn)) movesOf(d, s, v, moves);
+        for (Event e : moves) {
+            if (ONE_LINE) e.tn = *otherName(s.books, v.tn);
+            if (e.kind == kind && outcomeOf(s.table, s.books, e) == DONE) return e;
+        }
+    }
+    return std::nullopt;
+}
+
+void splitLines() {
+    lines.push_back([] { std::printf("\n%-52s|     /hand    /pass\n", "lines in split pairs (at 4,096 rows)"); });
+    for (const auto &[name, size] : LINES) {
+        std::string title = "soundness: " + name;
+        addRow(title, {planCheck(std::make_shared<Lent>(makeLines(size.first, size.second), MOST_ROWS, PLACES, Bytes()), title)});
+    }
+    const std::vector<std::pair<const char *, uint64_t>> kinds = {{"3 new side modifies", NEW_MODIFIES}, {"11 reply", REPLY}};
+    for (const auto &[name, kind] : kinds) {
+        std::string title = std::string("step, on a line in a pair, ") + name;
+        Situation s = makeLines(8, 512);
+        std::optional<Event> e = onLine(s, kind);
+        auto l = std::make_shared<Lent>(s, MOST_ROWS, PLACES, e ? packEvent(*e) : Bytes(RECORD));
+        addRow(title, {planStep(l, MOST_ROWS, DONE, title)});
+    }
 }
 
 // ---- Selection ----
@@ -559,6 +624,7 @@ int main(int argc, char **argv) {
     booksRow("books check, 256 codes, 64 filters, 8 pairs", STEP_LISTS);
     booksRow("books check, all places used", {PROVIDERS, CODES, FILTERS, SPLITS, true});
     records();
+    splitLines();
     selections();
 #ifdef TEST_RUN
     runs(situations);
