@@ -24,8 +24,8 @@ lupinenblatt_ran lupinenblatt_run(uint8_t *table, size_t table_len, const uint8_
 }
 
 #if ONE_LINE
-lupinenblatt_answer lupinenblatt_table_check_of_lines(const uint8_t *table, size_t table_len, const uint8_t *providers, size_t providers_len,
-                                                      const uint8_t *books, size_t books_len)
+lupinenblatt_answer TABLE_CHECK_OF_LINES(const uint8_t *table, size_t table_len, const uint8_t *providers, size_t providers_len,
+                                         const uint8_t *books, size_t books_len)
 {
     return hand_table_check(table, table_len, providers, providers_len, books, books_len);
 }

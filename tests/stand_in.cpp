@@ -33,8 +33,8 @@ extern "C" lupinenblatt_answer lupinenblatt_step_default(uint8_t *table, size_t 
 }
 
 #if ONE_LINE
-extern "C" lupinenblatt_answer lupinenblatt_table_check_of_lines(const uint8_t *table, size_t tableLength, const uint8_t *providers,
-                                                                 size_t providersLength, const uint8_t *books, size_t booksLength) {
+extern "C" lupinenblatt_answer TABLE_CHECK_OF_LINES(const uint8_t *table, size_t tableLength, const uint8_t *providers,
+                                                    size_t providersLength, const uint8_t *books, size_t booksLength) {
     std::optional<Books> b = unpackBooks(providers, providersLength, books, booksLength);
 #else
 extern "C" lupinenblatt_answer lupinenblatt_table_check(const uint8_t *table, size_t tableLength) {
