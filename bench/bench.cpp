@@ -215,7 +215,8 @@ Measured planCheck(const std::shared_ptr<Lent> &l, const std::string &name) {
     };
     lupinenblatt_answer a = call(checkTable), b = call(hand_table_check);
     mustAgree(a.outcome == b.outcome && a.count == b.count, name);
-    return plan(100, [l] {}, {often(times, [=] { sink = call(checkTable).count; }), often(times, [=] { sink = call(hand_table_check).count; }),
+    return plan(100, [l] {}, {often(times, [=] { sink = call(checkTable).count; }),
+                              often(times, [=] { sink = call(hand_table_check).count; }),
                               often(times, [=] { sink = plain_pass(l->tableAt.data(), length); })});
 }
 

@@ -39,7 +39,7 @@ inline uint64_t anyTenDigits(Dice &d) { return anyCode(d) * 10000 + d.below(1000
 
 inline Provider anyPresent(Dice &d, const Situation &s) { return s.present.empty() ? d.between(1, PROVIDERS) : d.pick(s.present); }
 
-// The other name of a line in a split pair, by the split list alone; and the smaller of its names. Where a line is a TN they are two numbers.
+// The other name of a line in a split pair, by the split list alone, and the smaller of the two. Where a line is a TN they are two numbers.
 inline std::optional<Tn> otherName(const Books &b, Tn tn) {
     std::optional<Code> partner = partnerOf(b, codeOf(tn));
     return partner ? std::optional<Tn>(Tn{*partner * 10000 + tn.digits % 10000}) : std::nullopt;

@@ -2,8 +2,8 @@
  * How many there are of each, and how large each is: what the arrays, loops and clamps of tests/ and bench/ are made from.
  *
  * What include/lupinenblatt.h has is taken from it. A rule is not taken from here, but for one switch: model.hpp, faults.hpp and
- * bench/hand.c spell the numbers of document 01 where its rules stand, and layouts.hpp and hand.c do not compile where their own numbers are
- * not these.
+ * bench/hand.c spell the numbers of document 01 where its rules stand, and layouts.hpp and hand.c do not compile where their own numbers
+ * are not these.
  */
 #ifndef LUPINENBLATT_TESTS_SIZES_H
 #define LUPINENBLATT_TESTS_SIZES_H
