@@ -147,7 +147,8 @@ static int run(desk *d, const event *e)
 static int close_day(const desk *d)
 {
     lupinenblatt_row_fields row = lupinenblatt_row(d->table, 0);
-    lupinenblatt_answer checked = lupinenblatt_table_check(d->table, sizeof d->table);
+    lupinenblatt_answer checked = lupinenblatt_table_check(d->table, sizeof d->table, d->providers, sizeof d->providers,
+                                                           d->books, sizeof d->books);
     printf("\n%" PRIu64 " version %u is %s with provider %u, LRN %" PRIu64 "; confirmed by ", row.tn, row.version,
            lupinenblatt_status_name(row.status), row.new_provider, row.lrn);
     print_set(row.confirmed);

@@ -198,6 +198,10 @@ extern "C" {
 #define LUPINENBLATT_TABLE_FAULT_SECOND_SENDING 30     /* a second sending version of its TN; likewise */
 #define LUPINENBLATT_TABLE_FAULT_SECOND_WORKED 31      /* a second worked version of its TN; likewise */
 #define LUPINENBLATT_TABLE_FAULT_BOOKS 32              /* the rows are sound, provider list or books are not */
+#define LUPINENBLATT_TABLE_FAULT_LINE_LIVE 33          /* a second live version of its line; `second` is the other */
+#define LUPINENBLATT_TABLE_FAULT_LINE_SENDING 34       /* a second sending version of its line; likewise */
+#define LUPINENBLATT_TABLE_FAULT_LINE_WORKED 35        /* a second worked version of its line; likewise */
+#define LUPINENBLATT_TABLE_FAULT_LINE_NUMBER 36        /* its version number stands twice in its line; likewise */
 
 /* The clauses that lupinenblatt_books_fault tells, likewise. */
 #define LUPINENBLATT_BOOKS_FAULT_PROVIDERS 1         /* the provider list has more than 63 bytes */
@@ -293,10 +297,12 @@ lupinenblatt_ran lupinenblatt_run(uint8_t *table, size_t table_length, const uin
                                   uint8_t *tray, size_t tray_length, uint8_t *outcomes, size_t outcomes_length);
 
 /*
- * Whether bytes are a sound table: LUPINENBLATT_DONE and the number of used rows as `count`, or LUPINENBLATT_UNSOUND and 0. A step makes
- * this check itself.
+ * Whether bytes are a sound table with the provider list and the books that it is lent with: LUPINENBLATT_DONE and the number of used rows as
+ * `count`, or LUPINENBLATT_UNSOUND and 0, also where the provider list or the books are unsound. The books say which TNs name one line, and in a
+ * line there is at most one live, one sending and one worked version, and no version number twice. A step makes this check itself.
  */
-lupinenblatt_answer lupinenblatt_table_check(const uint8_t *table, size_t table_length);
+lupinenblatt_answer lupinenblatt_table_check(const uint8_t *table, size_t table_length, const uint8_t *providers, size_t providers_length,
+                                             const uint8_t *books, size_t books_length);
 
 /*
  * Whether bytes are a sound provider list and sound books: LUPINENBLATT_DONE or LUPINENBLATT_UNSOUND. A step makes this check itself.
@@ -331,7 +337,8 @@ typedef struct {
 /*
  * Where a table is unsound: of the first row at fault the smallest LUPINENBLATT_TABLE_FAULT_.. that it breaks, its place, and the place of an
  * earlier row where the clause ties it to one. Where the rows are sound it is LUPINENBLATT_TABLE_FAULT_BOOKS if provider list or books are
- * not. All three numbers are 0 exactly where lupinenblatt_table_check and lupinenblatt_books_check find nothing. The slices are only read.
+ * not, and otherwise that of the first row that breaks a clause with an earlier row of its line. All three numbers are 0 exactly where
+ * lupinenblatt_table_check answers LUPINENBLATT_DONE. The slices are only read.
  */
 lupinenblatt_fault lupinenblatt_table_fault(const uint8_t *table, size_t table_length, const uint8_t *providers, size_t providers_length,
                                             const uint8_t *books, size_t books_length);

@@ -1,10 +1,11 @@
 // The step, and the checks of what it is lent.
 use outcomes::Answer;
 ghost use mathlib.Core.Path.{_≡_};
-ghost use Rattle.scan.specs.Sound.{soundnessOf};
+ghost use mathlib.Core.List.{map};
+ghost use Rattle.providers.specs.Providers.{listed, entryOf};
 ghost use Rattle.engine.specs.Event.{Did};
 ghost use Rattle.engine.specs.Step.{resultOf};
-ghost use Rattle.checks.specs.Checks.{checkedTable, checkedBooks};
+ghost use Rattle.checks.specs.Checks.{soundnessLent, checkedTable, checkedBooks};
 ghost use Rattle.lupinenblatt.specs.Default.{defaultRetries};
 
 const MOST_RETRIES: u64 = 7;
@@ -46,12 +47,12 @@ pub extern "C" fn lupinenblatt_step_default(
     engine::step::step(table, providers, books, DEFAULT_RETRIES, event, tray)
 }
 
-// Whether bytes are a sound table, and how many of its rows are used.
+// Whether bytes are a sound table with the provider list and the books that it is lent with, and how many of its rows are used. [A3.5]
 #[no_mangle]
-pub extern "C" fn lupinenblatt_table_check(table: &[u8]) -> Answer
-    ensures { λ r. ⌜ r ≡ checkedTable (soundnessOf (now (table .entry))) ⌝ }
+pub extern "C" fn lupinenblatt_table_check(table: &[u8], providers: &[u8], books: &[u8]) -> Answer
+    ensures { λ r. ⌜ r ≡ checkedTable (soundnessLent (listed (map entryOf (now (providers .entry)))) (now (books .entry)) (now (table .entry))) ⌝ }
 {
-    checks::table_check(table)
+    checks::table_check(table, providers, books)
 }
 
 // Whether bytes are a sound provider list and sound books.

@@ -37,7 +37,7 @@ fn retries() -> u8 {
     decimal::digit(digit[0])
 }
 
-// Whether the table is sound; if not, says so.
+// Whether the table's rows are sound; if not, says so.
 fn table_fits(table: &[u8]) -> bool {
     if table.len() % ROW != 0 {
         names::say_of(TABLE, b"the table is not whole rows of 80 bytes");
@@ -72,6 +72,24 @@ fn books_fit(providers: &[u8], books: &[u8]) -> bool {
         names::say_of(BOOKS, b"the books are unsound: inspect says where");
     }
     kept
+}
+
+// Whether all three are sound, the table's lines too; if not, says so of each.
+fn all_fit(table: &[u8], providers: &[u8], books: &[u8]) -> bool {
+    let rows = table_fits(table);
+    let kept = books_fit(providers, books);
+    if !(rows & kept) {
+        return false;
+    }
+    let checked = checks::table_check(table, providers, books);
+    if checked.outcome != 0 {
+        names::say_of(
+            TABLE,
+            b"the table is unsound with these books: inspect says where",
+        );
+        return false;
+    }
+    true
 }
 
 // How many rows a table has used, and of how many, in a text with a '#' for each.
@@ -127,7 +145,7 @@ fn replay(table: &mut [u8], providers: &[u8], books: &[u8], most: u8, from: u64)
 
 // Checks what is lent to each event before any file is written, and replays from an event's place on; from 0, it checks alone.
 fn begin(table: &mut [u8], providers: &[u8], books: &[u8], most: u8, from: u64) {
-    let sound = table_fits(table) & books_fit(providers, books);
+    let sound = all_fit(table, providers, books);
     if !sound {
         return;
     }

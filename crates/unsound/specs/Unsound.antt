@@ -1,4 +1,4 @@
--- Where a table is unsound, or what its soundness needs. (From request A3 on the lines, which are of the books, come behind it.)
+-- Where a table is unsound: in its rows, in what it is lent with, or in its lines, which are of the books.
 -- Assumes nothing.
 use Prim.Native.Nat.{ℕ}
 use mathlib.Core.Bool.{cond}
@@ -7,8 +7,15 @@ use lib.Dec.{eqb}
 use Rattle.faults.specs.declared.Fault.{Fault}
 use Rattle.faults.specs.Faults.{faultless, broken, orElse}
 use Rattle.checks.specs.Checks.{checkedBooks}
+use Rattle.rows.specs.Table.{decode}
+use Rattle.lines.specs.Lines.{lineBy}
 use Rattle.tablefaults.specs.Clauses.{tableFault}
+use Rattle.linefaults.specs.Clauses.{lineFault}
 
--- the table's own fault; where it has none, 32 if provider list or books are unsound
+-- 32 where provider list or books are unsound; otherwise the lines' fault, if they have one
+abbrev pub faultBeyond : List ℕ → List ℕ → List ℕ → Fault
+faultBeyond t p b = cond (eqb (checkedBooks p b) 0) (orElse (lineFault (lineBy b) (decode t)) faultless) (broken 32)
+
+-- the rows' own fault; where they have none, that of what they are lent with or of the lines
 unfoldable pub faultIn : List ℕ → List ℕ → List ℕ → Fault
-faultIn t p b = orElse (tableFault t) (cond (eqb (checkedBooks p b) 0) faultless (broken 32))
+faultIn t p b = orElse (tableFault t) (faultBeyond t p b)

@@ -3,7 +3,8 @@ use faults::Fault;
 use scan::Soundness;
 ghost use mathlib.Core.Path.{_≡_};
 ghost use Rattle.bookfaults.specs.Clauses.{booksFault};
-ghost use Rattle.unsound.specs.Unsound.{faultIn};
+ghost use Rattle.scan.specs.Sound.{SoundTable};
+ghost use Rattle.unsound.specs.Unsound.{faultBeyond, faultIn};
 
 // Where provider list or books are unsound.
 pub fn books(providers: &[u8], books: &[u8]) -> Fault
@@ -12,18 +13,27 @@ pub fn books(providers: &[u8], books: &[u8]) -> Fault
     bookfaults::fault(providers, books)
 }
 
-// Where a table is unsound; 32 where it is sound, and provider list or books are not. A sound table is read once.
+// The same of a table whose rows are sound, with n used ones: 32 where provider list or books are unsound, and then its lines.
+fn beyond(table: &[u8], n: usize, providers: &[u8], books: &[u8]) -> Fault
+    requires { ⌜ SoundTable (now table) n ⌝ }
+    ensures { λ r. ⌜ r ≡ faultBeyond (now (table .entry)) (now (providers .entry)) (now (books .entry)) ⌝ }
+{
+    if checks::books_check(providers, books) != 0 {
+        return faults::whole(32);
+    }
+    if lines::sound(books, table, n) {
+        return faults::whole(0);
+    }
+    linefaults::fault(books, table, n)
+}
+
+// Where a table is unsound: its rows first. A sound table is read once.
 pub fn table(table: &[u8], providers: &[u8], books: &[u8]) -> Fault
     ensures { λ r. ⌜ r ≡ faultIn (now (table .entry)) (now (providers .entry)) (now (books .entry)) ⌝ }
 {
     let verdict = scan::verdict(table);
     match verdict {
-        Soundness::Sound { used } => {
-            if checks::books_check(providers, books) == 0 {
-                return faults::whole(0);
-            }
-            faults::whole(32)
-        }
+        Soundness::Sound { used } => beyond(table, used, providers, books),
         Soundness::Unsound => tablefaults::fault(table),
     }
 }
