@@ -52,11 +52,12 @@ pub fn put_line(text: &[u8], place: u64, first: u64, last: u64) {
 }
 
 // Of a table, by the clause: the number that it is about, and another. The last two lines are the other halves of clauses 26 and 24.
-pub const NOT_LIVE: u64 = 33;
+pub const NOT_LIVE: u64 = 37;
 
-pub const NOBODY_WAITS: u64 = 34;
+pub const NOBODY_WAITS: u64 = 38;
 
-pub fn of_table(clause: u64, about: u64, with: u64) {
+// Without the end of the line.
+pub fn of_row(clause: u64, about: u64, with: u64) {
     put_line(
         b"\n\
         # bytes are no whole rows of 80\n\
@@ -91,12 +92,20 @@ pub fn of_table(clause: u64, about: u64, with: u64) {
         a second sending version of its TN beside row #\n\
         a second worked version of its TN beside row #\n\
         \n\
+        a second live version of its line beside row #\n\
+        a second sending version of its line beside row #\n\
+        a second worked version of its line beside row #\n\
+        the number stands twice in its line, beside row #\n\
         not live in status #\n\
         nobody waits in status #",
         clause,
         about,
         with,
     );
+}
+
+pub fn of_table(clause: u64, about: u64, with: u64) {
+    of_row(clause, about, with);
     put(b"\n");
 }
 

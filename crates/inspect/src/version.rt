@@ -48,6 +48,32 @@ fn say_row(f: Fault, v: Version) {
     }
 }
 
+// A clause of a row and an earlier one of its line, which has another TN: both are named.
+fn say_line(f: Fault, v: Version, other: Version) {
+    put_name(f.place, v);
+    texts::of_row(f.clause, f.second, 0);
+    texts::put_line(
+        b", TN # version #",
+        0,
+        other.id.tn.0,
+        other.id.number as u64,
+    );
+    texts::put(b"\n");
+}
+
+fn say_beside(f: Fault, v: Version, table: &[u8]) {
+    if f.second == 0 {
+        return;
+    }
+    let j = (f.second - 1) as usize;
+    if j < table.len() / ROW {
+        say_line(f, v, rows::load(table, j));
+    }
+}
+
+// The clauses of lines.
+const LINE: u64 = 33;
+
 pub fn say(f: Fault, table: &[u8]) {
     if f.place == 0 {
         texts::put(b"table: ");
@@ -57,6 +83,10 @@ pub fn say(f: Fault, table: &[u8]) {
     let i = (f.place - 1) as usize;
     if i < table.len() / ROW {
         let v = rows::load(table, i);
+        if f.clause >= LINE {
+            say_beside(f, v, table);
+            return;
+        }
         say_row(f, v);
     }
 }
