@@ -34,4 +34,5 @@ pub mod Entries
 pub mod Cells
 pub mod Stages
 pub mod Worked
+pub mod Twins
 pub mod Theorems

@@ -29,6 +29,7 @@ use Rattle.model.proofs.Concurring.{alone, concurs}
 use Rattle.model.proofs.Asking.{toLocalSms, asked, told, shown, classes}
 use Rattle.model.proofs.Effects.{modest-step, fine-step, other-rows}
 use Rattle.model.proofs.Stages.{passes, allPass, asks12}
+use Rattle.model.proofs.Twins.{twins, twins-computed}
 use Rattle.model.proofs.Worked.{examples, worked-examples, listing, the-listing, slips, slips-shut-out, dueDates, dates-shown, waitingTable, inOrder, places, Instance, an-instance}
 use Rattle.model.proofs.Cells.{cells, entries, by-place}
 use Rattle.model.specs.declared.Version.{Version}
@@ -61,14 +62,14 @@ refusal-changes-nothing s e t h = rw (modest-step s e t .nothing-done h)
 pub at-most-63 : (s : Setting) (e : Event) (t : List Version) → length (stepOf s e t .sent) ≤ 63
 at-most-63 s e t = modest-step s e t .few
 
--- A message names only its event's number.
-pub messages-of-the-number : (s : Setting) (e : Event) (t : List Version) → All (λ (m : Message). line s (m .id .tn .0) ≡ line s (e .tn .0)) (stepOf s e t .sent)
-messages-of-the-number s e t = fine-step s e t .about
+-- A message is only about its event's line. [A3.7]
+pub messages-of-the-line : (s : Setting) (e : Event) (t : List Version) → All (λ (m : Message). line s (m .id .tn .0) ≡ line s (e .tn .0)) (stepOf s e t .sent)
+messages-of-the-line s e t = fine-step s e t .about
 
--- A step touches only rows of its number.
-pub rows-of-other-numbers : (s : Setting) (e : Event) (t : List Version) (l : ℕ) → (line s (e .tn .0) ≡ l → ⊥)
+-- A step touches only rows of its line. [A3.2]
+pub rows-of-other-lines : (s : Setting) (e : Event) (t : List Version) (l : ℕ) → (line s (e .tn .0) ≡ l → ⊥)
     → rowsOf (line s) l (after (stepOf s) e t) ≡ rowsOf (line s) l t
-rows-of-other-numbers = other-rows
+rows-of-other-lines = other-rows
 
 -- Demand 3, in full: any number of allowed exchanges, all its premises, outcome 1 in front of the rules included. [H4]
 pub demand3 : Demand3
@@ -105,6 +106,11 @@ concurrence-agrees = concurs
 pub another-due-alone : (g : Given) → refuses g AnotherDue ≡ true
     → (refuses g Unfit ≡ false) × (refuses g Exhausted ≡ false) × (refuses g Full ≡ false)
 another-due-alone = alone
+
+-- One line under two codes: what an event may name, what is judged per line, whose owner counts, what is unsound, computed on five tables.
+-- [A3.1 to A3.5, A3.7]
+pub lines-shown : allPass twins ≡ true
+lines-shown = twins-computed
 
 -- The due dates of A4, on four tables: 18 for either side, in conflict alike, by the date that the row has now; 8, 12 and 9 before it; a modify
 -- that parts the dates again. [A4.1, A4.2]
