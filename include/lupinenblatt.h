@@ -32,7 +32,11 @@ extern "C" {
 #define LUPINENBLATT_VERSION "0.5.0"
 #define LUPINENBLATT_VERSION_NUMBER (1000000 * LUPINENBLATT_VERSION_MAJOR + 1000 * LUPINENBLATT_VERSION_MINOR + LUPINENBLATT_VERSION_PATCH)
 
-/* Outcome numbers. */
+/*
+ * Outcome numbers. 5, 7 to 12 and 14 are judged by the event's line: the versions under its TN and, where the TN's code stands in a split
+ * pair, under the TN with the pair's other code and the same last four digits. An event may use either name of a line; a row, and every
+ * message about it, has the name that it was created under. 4, and the owner where the line has no live version, go by the event's code.
+ */
 #define LUPINENBLATT_DONE 0
 #define LUPINENBLATT_UNSOUND 1        /* table or books unsound, R above 7, or a tray below 64 whole places */
 #define LUPINENBLATT_MALFORMED 2      /* record not 24 bytes or malformed */
@@ -162,8 +166,9 @@ extern "C" {
 #define LUPINENBLATT_CLASSES 63            /* exactly: byte n - 1 is provider n */
 
 /*
- * The clauses that lupinenblatt_table_fault tells, in the order in which they are judged of a row; docs/FAULTS.md says them in full.
- * LUPINENBLATT_FAULT_NONE is the clause where nothing is at fault, of a table as of books.
+ * The clauses that lupinenblatt_table_fault tells, in the order in which they are judged of a row; docs/FAULTS.md says them in full. Up to
+ * 31 they are of a row and of the rows of its TN, without the books; 32 is told where these are sound, and 33 to 36 where the books are
+ * sound too and a row clashes with an earlier one of its line. LUPINENBLATT_FAULT_NONE is the clause where nothing is at fault, of a table as of books.
  */
 #define LUPINENBLATT_FAULT_NONE 0
 #define LUPINENBLATT_TABLE_FAULT_LENGTH 1              /* the length is no multiple of the row's 80 bytes */
@@ -252,11 +257,12 @@ typedef struct {
 /*
  * One event on a table, with the provider list, the books, R (`retries`) and a tray.
  *
- * The answer's outcome is LUPINENBLATT_UNSOUND where the table, the provider list or the books are unsound, R is above 7, or the tray has
- * fewer than 64 whole places; otherwise LUPINENBLATT_MALFORMED where the event is no well-formed record; otherwise what document 01's rules
- * say of the event. With LUPINENBLATT_DONE the table holds what the rules make of it, the first `count` places of the tray hold the event's
- * messages in their order, and the tray's other bytes are as they were; `count` is at most 63, and the table is sound again. With any other
- * outcome `count` is 0, and table and tray hold the bytes that they held before. Provider list, books and event are only read.
+ * The answer's outcome is LUPINENBLATT_UNSOUND where the provider list or the books are unsound or the table is unsound with them (see
+ * lupinenblatt_table_check), R is above 7, or the tray has fewer than 64 whole places; otherwise LUPINENBLATT_MALFORMED where the event is
+ * no well-formed record; otherwise what the rules of document 01, with the requests that have landed, say of the event. With
+ * LUPINENBLATT_DONE the table holds what the rules make of it, the first `count` places of the tray hold the event's messages in their
+ * order, and the tray's other bytes are as they were; `count` is at most 63, and the table is sound again. With any other outcome `count`
+ * is 0, and table and tray hold the bytes that they held before. Provider list, books and event are only read.
  */
 lupinenblatt_answer lupinenblatt_step(uint8_t *table, size_t table_length, const uint8_t *providers, size_t providers_length,
                                       const uint8_t *books, size_t books_length, uint64_t retries, const uint8_t *event, size_t event_length,
@@ -279,11 +285,11 @@ typedef struct {
 
 /*
  * Many events on a table: records of 24 bytes, one after the other, done in order exactly as repeated calls of lupinenblatt_step would, each
- * event's messages behind those of the event before it. The table's soundness is checked once.
+ * event's messages behind those of the event before it. The soundness of table, provider list and books is checked once.
  *
- * The answer's outcome is LUPINENBLATT_UNSOUND where the table, the provider list or the books are unsound, R is above 7, the tray has fewer
- * than 64 whole places, or `outcomes` has fewer than two bytes for each whole record; otherwise LUPINENBLATT_MALFORMED where the records are
- * not whole. With either nothing is done: `events` and `messages` are 0, and table, tray and outcomes hold the bytes that they held before.
+ * The answer's outcome is LUPINENBLATT_UNSOUND where these are unsound as in a step, R is above 7, the tray has fewer than 64 whole places,
+ * or `outcomes` has fewer than two bytes for each whole record; otherwise LUPINENBLATT_MALFORMED where the records are not whole. With
+ * either nothing is done: `events` and `messages` are 0, and table, tray and outcomes hold the bytes that they held before.
  *
  * Otherwise it is LUPINENBLATT_DONE, and the events were done in order, up to the end or to the first event for which fewer than 64 whole
  * places of the tray were left. Of the event at place i (from 0) the bytes 2 i and 2 i + 1 of `outcomes` are the outcome and the count of its
@@ -297,9 +303,10 @@ lupinenblatt_ran lupinenblatt_run(uint8_t *table, size_t table_length, const uin
                                   uint8_t *tray, size_t tray_length, uint8_t *outcomes, size_t outcomes_length);
 
 /*
- * Whether bytes are a sound table with the provider list and the books that it is lent with: LUPINENBLATT_DONE and the number of used rows as
- * `count`, or LUPINENBLATT_UNSOUND and 0, also where the provider list or the books are unsound. The books say which TNs name one line, and in a
- * line there is at most one live, one sending and one worked version, and no version number twice. A step makes this check itself.
+ * Whether bytes are a sound table with the provider list and the books that it is lent with: LUPINENBLATT_DONE and the number of used rows
+ * as `count`, or LUPINENBLATT_UNSOUND and 0, also where the provider list or the books are unsound. The books say which TNs name one line,
+ * and in a line there is at most one live, one sending and one worked version, and no version number twice; so a split pair that is entered
+ * may make a table unsound. A step makes this check itself. Up to version 0.5.0 the call took the table alone and judged each TN by itself.
  */
 lupinenblatt_answer lupinenblatt_table_check(const uint8_t *table, size_t table_length, const uint8_t *providers, size_t providers_length,
                                              const uint8_t *books, size_t books_length);
@@ -319,7 +326,8 @@ uint8_t lupinenblatt_books_check(const uint8_t *providers, size_t providers_leng
  * holds: it is not present, as nobody is behind the end of the provider list; it runs no Local SMS; the TN's code stands in no pair and the
  * provider has a filter on it; the code stands in a pair and the provider has filters on both codes. Otherwise it is selected, also with a
  * filter on one code of a pair. An event that activates, modifies or disconnects a version of this TN sends its downloads to exactly the
- * selected providers, a resend to those of them that had failed. Provider list and books are only read.
+ * selected providers, a resend to those of them that had failed. Both names of a line have the same classes. Provider list and books are only
+ * read.
  */
 uint8_t lupinenblatt_selection(const uint8_t *providers, size_t providers_length, const uint8_t *books, size_t books_length, uint64_t tn,
                                uint8_t *classes, size_t classes_length);
