@@ -168,7 +168,8 @@ extern "C" {
 /*
  * The clauses that lupinenblatt_table_fault tells, in the order in which they are judged of a row; docs/FAULTS.md says them in full. Up to
  * 31 they are of a row and of the rows of its TN, without the books; 32 is told where these are sound, and 33 to 36 where the books are
- * sound too and a row clashes with an earlier one of its line. LUPINENBLATT_FAULT_NONE is the clause where nothing is at fault, of a table as of books.
+ * sound too and a row clashes with an earlier one of its line. LUPINENBLATT_FAULT_NONE is the clause where nothing is at fault, of a table
+ * as of books.
  */
 #define LUPINENBLATT_FAULT_NONE 0
 #define LUPINENBLATT_TABLE_FAULT_LENGTH 1              /* the length is no multiple of the row's 80 bytes */
