@@ -27,9 +27,9 @@ extern "C" {
 
 /* The version of header and library; docs/LAYOUTS.md says what each part counts. */
 #define LUPINENBLATT_VERSION_MAJOR 0
-#define LUPINENBLATT_VERSION_MINOR 5
+#define LUPINENBLATT_VERSION_MINOR 6
 #define LUPINENBLATT_VERSION_PATCH 0
-#define LUPINENBLATT_VERSION "0.5.0"
+#define LUPINENBLATT_VERSION "0.6.0"
 #define LUPINENBLATT_VERSION_NUMBER (1000000 * LUPINENBLATT_VERSION_MAJOR + 1000 * LUPINENBLATT_VERSION_MINOR + LUPINENBLATT_VERSION_PATCH)
 
 /*
@@ -722,6 +722,10 @@ static inline const char *lupinenblatt_table_fault_name(uint64_t clause)
         "a second sending version of its TN; the second place is the other",
         "a second worked version of its TN; the second place is the other",
         "the rows are sound, provider list or books are not",
+        "a second live version of its line; the second place is the other",
+        "a second sending version of its line; the second place is the other",
+        "a second worked version of its line; the second place is the other",
+        "its version number stands twice in its line; the second place is the other",
     };
     return clause < sizeof names / sizeof *names ? names[clause] : "no clause";
 }

@@ -10,6 +10,7 @@ ghost use mathlib.Core.Bool.{true};
 ghost use Prim.Native.Nat.{_+_, _*_, _≤_, _<_};
 ghost use lib.ListN.{length};
 ghost use Rattle.model.specs.Books.{underCode, lineIn, soundSplits};
+ghost use Rattle.row.specs.Layout.{keyOf};
 ghost use Rattle.words.specs.Size.{ROW};
 ghost use Rattle.words.specs.Codec.{wordsIn};
 ghost use Rattle.rows.specs.Place.{rowAt};
@@ -61,13 +62,38 @@ fn has_none(h: Held) -> bool
     !(h.live | (h.sends | h.worked))
 }
 
-// Whether no version has that name.
-fn absent(t: &[u8], n: usize, k: Id) -> bool
+// Rows that are looked at one after the other before a search.
+const NEAR: usize = 8;
+
+// Where the version of that name is or would be, from a place not behind it on: most numbers have few versions, so it is near.
+fn place_from(t: &[u8], n: usize, k: Id, from: usize) -> usize
     requires { ⌜ SoundTable (now t) n ⌝ }
-    requires { ⌜ k .tn .0 < 17179869184 ⌝ }
+    requires { ⌜ (k .tn .0 < 17179869184) × (from ≤ placeIn (keyOf k) (decode (now t))) ⌝ }
+    ensures { λ r. ⌜ r ≡ placeIn (keyOf k) (decode (now (t .entry))) ⌝ }
+{
+    let key = k.tn.0 * 65536 + k.number as u64;
+    let mut left = NEAR;
+    let mut at = from;
+    while at < n {
+        if key <= head(t, at) / 16384 {
+            return at;
+        }
+        if left == 0 {
+            return find::place(t, n, k);
+        }
+        left -= 1;
+        at += 1;
+    }
+    at
+}
+
+// Whether no version has that name, whose place is not before `from`.
+fn absent(t: &[u8], n: usize, k: Id, from: usize) -> bool
+    requires { ⌜ SoundTable (now t) n ⌝ }
+    requires { ⌜ (k .tn .0 < 17179869184) × (from ≤ placeIn (keyOf k) (decode (now t))) ⌝ }
     ensures { λ r. ⌜ r ≡ lacks k (decode (now (t .entry))) ⌝ }
 {
-    let i = find::place(t, n, k);
+    let i = place_from(t, n, k, from);
     if i < n {
         return head(t, i) / 16384 != k.tn.0 * 65536 + k.number as u64;
     }
@@ -139,7 +165,7 @@ fn fitting(t: &[u8], n: usize, c: u64, i: usize, at: usize) -> bool
         return true;
     }
     let number = (w / 16384 % 65536) as u16;
-    if absent(t, n, Id { tn, number }) {
+    if absent(t, n, Id { tn, number }, at) {
         return spared(t, n, tn, held_of(w), at);
     }
     false

@@ -9,8 +9,8 @@ use borrow.Author.Needs.{needs}
 use Rattle.lines.proofs.absent.Statement.{statement}
 use Rattle.lines.proofs.absent.Tie as tie
 
-place-requires : tie.Need-place-requires
-place-requires c κs = search needs
+place-from-requires : tie.Need-place-from-requires
+place-from-requires c κs = search needs
 
 head-requires : tie.Need-head-requires
 head-requires c κs =
@@ -30,7 +30,7 @@ returns : tie.Need-returns
 returns c =
     let st = c .before .before .before .before .before .before in
     let a = st .args in
-    let at = c .before .before .before .before .place in
+    let at = c .before .before .before .before .place-from in
     let w = c .before .before .head in
     let h = c .before .before .before .if1 .taken in
     let g = tells (a .t .now) (a .n) (at .result) (w .result) (st .pre .0) h (w .ensures) (omega arith) in
@@ -40,10 +40,10 @@ returns-2 : tie.Need-returns-2
 returns-2 c =
     let st = c .before .before .before in
     let a = st .args in
-    let at = c .before .place in
+    let at = c .before .place-from in
     sym (absent-out (a .k) (omega arith) (decode (a .t .now)) (at .result) (at .ensures) (omega (arith, st .pre .0 .count, c .if1 .left)))
 
 pub absent-spec : {M : Type 1} → statement M
 absent-spec =
     tie.close
-    (tie.spec place-requires head-requires mul-result cast-result add-result returns returns-2)
+    (tie.spec place-from-requires head-requires mul-result cast-result add-result returns returns-2)

@@ -1,10 +1,11 @@
 -- `lines::fitting` meets its contract. Assumes nothing.
 use Prim.Native.Nat.{ℕ, _+_, _*_, _/_, _%_}
-use mathlib.Core.Path.{sym, ap, _∙_}
+use mathlib.Core.Path.{_≡_, sym, ap, _∙_}
 use native.Mathlib.Omega.{arith}
 use Rattle.rows.specs.Table.{decode}
 use Rattle.table.specs.Find.{placeIn}
 use Rattle.table.specs.Survey.{versionAt}
+use Rattle.table.proofs.Numbered.{place-up}
 use Rattle.lines.proofs.Heads.{tells}
 use Rattle.lines.proofs.Abreast.{fits-nobody, fits-not, fits-by}
 use borrow.Author.Needs.{needs}
@@ -44,7 +45,17 @@ cast-number : tie.Need-cast-number
 cast-number c = search needs
 
 absent-requires : tie.Need-absent-requires
-absent-requires c κs = search needs
+absent-requires c κs =
+    let st = c .before .before .before .before in
+    let a = st .args in
+    let w = c .before .before .head in
+    let vs = decode (a .t .now) in
+    let g = tells (a .t .now) (a .n) (a .i) (w .result) (st .pre .0) (st .pre .1 .0 .1) (w .ensures) (omega arith) in
+    let at : a .at ≡ placeIn ((a .c * 10000 + w .result / 1073741824 % 10000) * 65536 + 0) vs =
+    st .pre .1 .1 ∙ ap (λ (y : ℕ). placeIn ((a .c * 10000 + y % 10000) * 65536 + 0) vs) (sym (g .tn)) in
+    let up = place-up vs ((a .c * 10000 + w .result / 1073741824 % 10000) * 65536 + 0)
+    ((a .c * 10000 + w .result / 1073741824 % 10000) * 65536 + w .result / 16384 % 65536) (omega arith) in
+    (st .pre .0, (omega (arith, st .pre .1 .0 .0), omega (arith, at, up)))
 
 held-of-requires : tie.Need-held-of-requires
 held-of-requires c κs = search needs
