@@ -213,9 +213,9 @@ Measured planCheck(const std::shared_ptr<Lent> &l, const std::string &name) {
     auto call = [l](auto check) {
         return check(l->tableAt.data(), l->tableAt.size(), l->providers.data(), l->providers.size(), l->books.data(), l->books.size());
     };
-    lupinenblatt_answer a = call(checkTable), b = call(hand_table_check);
+    lupinenblatt_answer a = call(lupinenblatt_table_check), b = call(hand_table_check);
     mustAgree(a.outcome == b.outcome && a.count == b.count, name);
-    return plan(100, [l] {}, {often(times, [=] { sink = call(checkTable).count; }),
+    return plan(100, [l] {}, {often(times, [=] { sink = call(lupinenblatt_table_check).count; }),
                               often(times, [=] { sink = call(hand_table_check).count; }),
                               often(times, [=] { sink = plain_pass(l->tableAt.data(), length); })});
 }
@@ -413,14 +413,14 @@ const std::vector<std::pair<std::string, std::pair<size_t, size_t>>> LINES = {
     {"64 pairs, all rows in them", {SPLITS, MOST_ROWS}},
 };
 
-// An event of this kind that is done, on a line in a pair; under the row's other name where that is the same line.
+// An event of this kind that is done, on a line in a pair, under the row's other name.
 std::optional<Event> onLine(const Situation &s, uint64_t kind) {
     Dice d(31);
     for (const Version &v : s.table.used) {
         std::vector<Event> moves;
         if (otherName(s.books, v.tn)) movesOf(d, s, v, moves);
         for (Event e : moves) {
-            if (ONE_LINE) e.tn = *otherName(s.books, v.tn);
+            e.tn = *otherName(s.books, v.tn);
             if (e.kind == kind && outcomeOf(s.table, s.books, e) == DONE) return e;
         }
     }

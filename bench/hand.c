@@ -2,8 +2,8 @@
  * Document 01 by hand, for speed: the same calls on the same bytes (docs/LAYOUTS.md), written from the paper and not from the library.
  *
  * The soundness of the table is one pass with one load a word and, but for retries, no branch that goes either way in sound tables; a
- * number's rows are found by bisection; rows and messages are written word by word; rows move by memmove. With ONE_LINE (request A3, see
- * tests/sizes.h) the rows of a line in a split pair are found by two bisections, and the pass is followed by a merge for each pair.
+ * number's rows are found by bisection; rows and messages are written word by word; rows move by memmove. The rows of a line in a
+ * split pair are found by two bisections, and the pass is followed by a merge for each pair.
  */
 #include "hand.h"
 #include "sizes.h"
@@ -360,7 +360,7 @@ static uint32_t partner_of(const books_t *b, uint32_t code)
 /* The other name of a TN's line, 0 where it has none. */
 static inline uint64_t other_name(const books_t *b, uint64_t tn)
 {
-    uint64_t partner = ONE_LINE ? partner_of(b, (uint32_t)(tn / 10000)) : 0;
+    uint64_t partner = partner_of(b, (uint32_t)(tn / 10000));
     return partner == 0 ? 0 : partner * 10000 + tn % 10000;
 }
 
@@ -866,7 +866,7 @@ static bool begin(engine_t *g, uint8_t *table, size_t table_length, const uint8_
     if (retries > MOST_RETRIES || tray_length / MESSAGE < PLACES) return false;
     if (!check_books(providers, providers_length, books, books_length, &g->books)) return false;
     ptrdiff_t used = check_table(table, table_length);
-    if (used < 0 || (ONE_LINE && !check_lines(table, (size_t)used, &g->books))) return false;
+    if (used < 0 || !check_lines(table, (size_t)used, &g->books)) return false;
     g->rows = table;
     g->used = (size_t)used;
     g->all = table_length / ROW;
@@ -916,15 +916,13 @@ lupinenblatt_ran hand_run(uint8_t *table, size_t table_length, const uint8_t *pr
     return ran;
 }
 
-/* Unsound books say nothing of lines. */
 lupinenblatt_answer hand_table_check(const uint8_t *table, size_t table_length, const uint8_t *providers, size_t providers_length,
                                      const uint8_t *books, size_t books_length)
 {
     books_t b;
     ptrdiff_t used = check_table(table, table_length);
-    if (ONE_LINE && used > 0 && check_books(providers, providers_length, books, books_length, &b) && !check_lines(table, (size_t)used, &b))
-        used = -1;
-    lupinenblatt_answer a = {used < 0, used < 0 ? 0 : (uint64_t)used};
+    bool sound = used >= 0 && check_books(providers, providers_length, books, books_length, &b) && check_lines(table, (size_t)used, &b);
+    lupinenblatt_answer a = {!sound, sound ? (uint64_t)used : 0};
     return a;
 }
 

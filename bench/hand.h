@@ -20,7 +20,7 @@ lupinenblatt_ran hand_run(uint8_t *table, size_t table_len, const uint8_t *provi
                           size_t books_len, uint64_t retries, const uint8_t *events, size_t events_len, uint8_t *tray, size_t tray_len,
                           uint8_t *outcomes, size_t outcomes_len);
 
-/* 0 and the number of used rows, or 1 and 0. Provider list and books are read where ONE_LINE is 1. */
+/* 0 and the number of used rows, or 1 and 0, also where provider list or books are unsound. */
 lupinenblatt_answer hand_table_check(const uint8_t *table, size_t table_len, const uint8_t *providers, size_t providers_len,
                                      const uint8_t *books, size_t books_len);
 

@@ -23,18 +23,11 @@ lupinenblatt_ran lupinenblatt_run(uint8_t *table, size_t table_len, const uint8_
                     outcomes_len);
 }
 
-#if ONE_LINE
-lupinenblatt_answer TABLE_CHECK_OF_LINES(const uint8_t *table, size_t table_len, const uint8_t *providers, size_t providers_len,
-                                         const uint8_t *books, size_t books_len)
+lupinenblatt_answer lupinenblatt_table_check(const uint8_t *table, size_t table_len, const uint8_t *providers, size_t providers_len,
+                                             const uint8_t *books, size_t books_len)
 {
     return hand_table_check(table, table_len, providers, providers_len, books, books_len);
 }
-#else
-lupinenblatt_answer lupinenblatt_table_check(const uint8_t *table, size_t table_len)
-{
-    return hand_table_check(table, table_len, NULL, 0, NULL, 0);
-}
-#endif
 
 uint8_t lupinenblatt_books_check(const uint8_t *providers, size_t providers_len, const uint8_t *books, size_t books_len)
 {

@@ -188,7 +188,7 @@ inline std::vector<size_t> inPairs(const Table &t, const Books &b, uint64_t numb
 }
 
 // Numbers 33 to 36: a row once more under the other name of its line. For the first three it has mostly a number that the line has not, for
-// the last the same number and nothing that a line may have only once. Where a line is a TN, the table stays sound.
+// the last the same number and nothing that a line may have only once.
 inline void breakLine(Dice &d, Table &t, const Books &b, uint64_t number) {
     std::vector<size_t> like = inPairs(t, b, number);
     if (like.empty() || t.used.size() >= MOST_ROWS) return;
@@ -243,7 +243,7 @@ inline bool breakLines(Dice &d, Table &t, const Books &b) {
 inline Bytes brokenTable(Dice &d, Table t, const Books &b) {
     size_t more = d.chance(2) ? MOST_ROWS : d.chance(8) ? d.between(250, 300) : t.used.size() + d.between(2, 9);
     if (t.used.size() < 2 || d.chance(25)) addNumbers(d, t, b, more);
-    bool linesAlone = !b.splits.empty() && d.chance(ONE_LINE ? 18 : 4) && breakLines(d, t, b);
+    bool linesAlone = !b.splits.empty() && d.chance(18) && breakLines(d, t, b);
     std::vector<Break> breaks = anyBreaks(d, t.used.size(), 3, 31), bits;
     if (linesAlone) breaks.clear();
     for (const Break &k : breaks) {

@@ -7,7 +7,6 @@
 #define LUPINENBLATT_TESTS_CALLS_H
 
 #include "lupinenblatt.h"
-#include "sizes.h"
 
 #ifdef __cplusplus
 extern "C" {
@@ -30,33 +29,13 @@ lupinenblatt_answer lupinenblatt_step_default(uint8_t *table, size_t table_len, 
 #endif
 
 #ifndef LUPINENBLATT_HEADER_HAS_CHECKS
-/* Sound: outcome 0 and how many rows are used. Otherwise outcome 1 and 0. */
-lupinenblatt_answer lupinenblatt_table_check(const uint8_t *table, size_t table_length);
+/* Table, provider list and books sound: outcome 0 and how many rows are used. Otherwise outcome 1 and 0. */
+lupinenblatt_answer lupinenblatt_table_check(const uint8_t *table, size_t table_length, const uint8_t *providers, size_t providers_length,
+                                             const uint8_t *books, size_t books_length);
 
 /* 0 where provider list and books are sound, otherwise 1. */
 uint8_t lupinenblatt_books_check(const uint8_t *providers, size_t providers_length, const uint8_t *books, size_t books_length);
 #endif
-
-/*
- * The table's check as the tests call it. It takes provider list and books too once request A3 has landed; until the header says so, what
- * stands in for the library makes that form under a name of its own, which is then lupinenblatt_table_check.
- */
-#if ONE_LINE
-#define TABLE_CHECK_OF_LINES lupinenblatt_table_check_of_lines
-lupinenblatt_answer TABLE_CHECK_OF_LINES(const uint8_t *table, size_t table_length, const uint8_t *providers, size_t providers_length,
-                                         const uint8_t *books, size_t books_length);
-#endif
-
-static inline lupinenblatt_answer checkTable(const uint8_t *table, size_t table_length, const uint8_t *providers, size_t providers_length,
-                                             const uint8_t *books, size_t books_length)
-{
-#if ONE_LINE
-    return TABLE_CHECK_OF_LINES(table, table_length, providers, providers_length, books, books_length);
-#else
-    (void)providers, (void)providers_length, (void)books, (void)books_length;
-    return lupinenblatt_table_check(table, table_length);
-#endif
-}
 
 #ifndef LUPINENBLATT_HEADER_HAS_SELECTION
 /*

@@ -141,7 +141,7 @@ struct LineBefore {
 
 LineBefore lineBefore(const std::optional<Table> &table, const std::optional<Books> &books, const std::optional<Event> &e) {
     LineBefore l;
-    if (!ONE_LINE || !table || !books || !sound(*books) || !e || !wellFormed(*e) || !otherName(*books, e->tn)) return l;
+    if (!table || !books || !sound(*books) || !e || !wellFormed(*e) || !otherName(*books, e->tn)) return l;
     l.split = true, l.create = e->kind <= OLD_CREATES;
     const Version *v = l.create ? workedVersion(*table, *books, e->tn) : findVersion(*table, *books, e->tn, e->version);
     std::vector<const Version *> all = versionsOf(*table, *books, e->tn);
@@ -368,7 +368,7 @@ bool compareStep(Slices &s, const Bytes &record, std::optional<Table> &table, co
     const char *what = library.outcome != model.outcome ? "outcome" : library.count != model.messages.size() ? "count"
         : s.table != table2 ? "table" : s.tray != tray2 ? "tray" : s.providers != before.providers ? "providers written to"
         : s.books != before.books ? "books written to" : !counted ? UNCOUNTED : lookAfter(s, record, said, library);
-    if (model.outcome == DONE && !sound(*table, books)) what = "the model leaves an unsound table", tally.unsoundAfter++;
+    if (model.outcome == DONE && !sound(*table, *books)) what = "the model leaves an unsound table", tally.unsoundAfter++;
     if (!what) return true;
     report(what, before, record);
     if (tally.differ == 1) {
@@ -419,10 +419,10 @@ bool compareChecks(const Slices &s, const std::optional<Table> &table, const std
 #ifdef TEST_CHECKS
     Slices kept = s;
     tally.checks++;
-    lupinenblatt_answer a = checkTable(at(kept.table), kept.table.size(), at(kept.providers), kept.providers.size(), at(kept.books),
-                                       kept.books.size());
+    lupinenblatt_answer a = lupinenblatt_table_check(at(kept.table), kept.table.size(), at(kept.providers), kept.providers.size(),
+                                                     at(kept.books), kept.books.size());
     uint64_t b = lupinenblatt_books_check(at(kept.providers), kept.providers.size(), at(kept.books), kept.books.size());
-    bool tableSound = table && sound(*table, books), booksSound = books && sound(*books);
+    bool booksSound = books && sound(*books), tableSound = booksSound && table && sound(*table, *books);
     const char *what = a.outcome != (tableSound ? DONE : UNSOUND) ? "table_check: outcome"
         : a.count != (tableSound ? table->used.size() : 0) ? "table_check: used rows" : b != (booksSound ? DONE : UNSOUND) ? "books_check"
         : kept.table != s.table || kept.providers != s.providers || kept.books != s.books ? "a check wrote" : nullptr;
@@ -439,13 +439,19 @@ void printFault(const char *who, const Fault &f) {
                 (unsigned long long)f.second);
 }
 
-// The verdict of the calls that say where against that of the two checks.
-const char *verdictFault(Slices &s, const Fault &table, const Fault &books) {
+// Whether the table's check finds nothing with this provider list and these books.
+bool checked(const Bytes &table, const Bytes &providers, const Bytes &books) {
+    return lupinenblatt_table_check(at(table), table.size(), at(providers), providers.size(), at(books), books.size()).outcome == DONE;
+}
+
+// The verdict of the calls that say where against that of the two checks. With nobody in empty books the table's check judges rows alone.
+const char *verdictFault(const Slices &s, const Fault &table, const Fault &books) {
 #ifdef TEST_CHECKS
-    bool rows = checkTable(at(s.table), s.table.size(), at(s.providers), s.providers.size(), at(s.books), s.books.size()).outcome == DONE;
+    bool all = checked(s.table, s.providers, s.books), rows = checked(s.table, Bytes(), Bytes(BOOKS));
     bool lists = lupinenblatt_books_check(at(s.providers), s.providers.size(), at(s.books), s.books.size()) == DONE;
-    if ((table.clause == 0) != (rows && lists)) return "table_fault and the two checks";
-    if ((table.clause == 32) != (rows && !lists)) return "table_fault and the table's check";
+    if ((table.clause == 0) != all) return "table_fault and the table's check";
+    if ((table.clause == 32) != (rows && !lists)) return "table_fault and the two checks";
+    if ((table.clause > 32) != (rows && lists && !all)) return "table_fault and the table's check of lines";
     if ((books.clause == 0) != lists) return "books_fault and books_check";
 #endif
     return (void)s, (void)table, (void)books, nullptr;
@@ -638,7 +644,7 @@ ModelRan modelRun(const Slices &s, const Bytes &events, const Bytes &outcomes) {
     m.table = s.table, m.tray = s.tray, m.outcomes = outcomes;
     std::optional<Table> table = unpackTable(s.table.data(), s.table.size());
     std::optional<Books> books = unpackBooks(s.providers.data(), s.providers.size(), s.books.data(), s.books.size());
-    bool good = table && sound(*table, books) && books && sound(*books) && s.R <= MOST_RETRIES && s.tray.size() / MESSAGE >= PLACES;
+    bool good = books && sound(*books) && table && sound(*table, *books) && s.R <= MOST_RETRIES && s.tray.size() / MESSAGE >= PLACES;
     if (!good || outcomes.size() < events.size() / RECORD * 2) return m;
     m.outcome = events.size() % RECORD == 0 ? DONE : MALFORMED;
     if (m.outcome != DONE) return m;
@@ -825,7 +831,6 @@ bool printLines() {
         "too early by the stamp under the other name alone", "create done, the current provider by a live version under the other name",
         "no live version, two owners: create done by the owner of the event's code",
         "no live version, two owners: the partner's owner gets 12"};
-    if (!ONE_LINE) return true;
     bool good = true;
     std::printf("%llu events on lines in split pairs; under another name than the row's\nkind           done   refused\n",
                 (unsigned long long)tally.splitLines);

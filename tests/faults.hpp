@@ -191,7 +191,6 @@ inline Fault tableFault(const uint8_t *table, size_t tableLength, const uint8_t 
     if (f.clause != 0) return f;
     f = booksFault(providers, providersLength, books, booksLength);
     if (f.clause != 0) return {32, 0, 0};
-    if (!ONE_LINE) return {};
     Books b = unpackBooks(providers, providersLength, books, booksLength).value_or(Books());
     return linesFault(b, unpackTable(table, tableLength).value_or(Table()).used);
 }

@@ -159,13 +159,14 @@ struct Places { Place table, providers, books, event, tray, outcomes, classes; }
 bool soundInput(const Input &in) {
     std::optional<Table> t = unpackTable(in.table.data(), in.table.size());
     std::optional<Books> b = unpackBooks(in.providers.data(), in.providers.size(), in.books.data(), in.books.size());
-    return t && sound(*t, b) && b && sound(*b) && in.R <= MOST_RETRIES && in.tray.size() / MESSAGE >= PLACES;
+    return b && sound(*b) && t && sound(*t, *b) && in.R <= MOST_RETRIES && in.tray.size() / MESSAGE >= PLACES;
 }
 
 // A table that an event left, by the books that it was given.
 bool soundAfter(const Bytes &table, const Input &in) {
     std::optional<Table> t = unpackTable(table.data(), table.size());
-    return t && sound(*t, unpackBooks(in.providers.data(), in.providers.size(), in.books.data(), in.books.size()));
+    std::optional<Books> b = unpackBooks(in.providers.data(), in.providers.size(), in.books.data(), in.books.size());
+    return b && sound(*b) && t && sound(*t, *b);
 }
 
 void printInput(const Input &in) {
@@ -278,11 +279,11 @@ void checkRun(Dice &d, Places &p, const Input &in, const Bytes &blank) {
 // The checks of soundness alone.
 void checkChecks(Dice &d, Places &p, const Input &in) {
     uint8_t *table = p.table.lay(d, in.table), *providers = p.providers.lay(d, in.providers), *books = p.books.lay(d, in.books);
-    lupinenblatt_answer a = checkTable(table, in.table.size(), providers, in.providers.size(), books, in.books.size());
+    lupinenblatt_answer a = lupinenblatt_table_check(table, in.table.size(), providers, in.providers.size(), books, in.books.size());
     uint8_t b = lupinenblatt_books_check(providers, in.providers.size(), books, in.books.size());
     std::optional<Table> t = unpackTable(in.table.data(), in.table.size());
     std::optional<Books> list = unpackBooks(in.providers.data(), in.providers.size(), in.books.data(), in.books.size());
-    bool tableSound = t && sound(*t, list), booksSound = list && sound(*list);
+    bool booksSound = list && sound(*list), tableSound = booksSound && t && sound(*t, *list);
     const char *what = nullptr;
     if (a.outcome != !tableSound || a.count != (tableSound ? t->used.size() : 0)) what = "table_check answers wrongly";
     else if (b != !booksSound) what = "books_check answers wrongly";

@@ -39,7 +39,7 @@ inline uint64_t anyTenDigits(Dice &d) { return anyCode(d) * 10000 + d.below(1000
 
 inline Provider anyPresent(Dice &d, const Situation &s) { return s.present.empty() ? d.between(1, PROVIDERS) : d.pick(s.present); }
 
-// The other name of a line in a split pair, by the split list alone, and the smaller of the two. Where a line is a TN they are two numbers.
+// The other name of a line in a split pair, by the split list alone, and the smaller of the two.
 inline std::optional<Tn> otherName(const Books &b, Tn tn) {
     std::optional<Code> partner = partnerOf(b, codeOf(tn));
     return partner ? std::optional<Tn>(Tn{*partner * 10000 + tn.digits % 10000}) : std::nullopt;
@@ -47,8 +47,8 @@ inline std::optional<Tn> otherName(const Books &b, Tn tn) {
 
 inline Tn smallerName(const Books &b, Tn tn) { return std::min(tn, otherName(b, tn).value_or(tn)); }
 
-// How often, in a hundred, an event for a version in a split pair has the other name. Where a line is a TN, that is another number.
-constexpr uint64_t OTHER_NAME = ONE_LINE ? 35 : 2;
+// How often, in a hundred, an event for a version in a split pair has the other name.
+constexpr uint64_t OTHER_NAME = 35;
 inline Tn anyName(Dice &d, const Books &b, Tn tn) { return d.chance(OTHER_NAME) ? otherName(b, tn).value_or(tn) : tn; }
 
 inline Time after(Time t, uint64_t more) { return std::max<Time>(1, std::min<Time>(LAST_TIME, t + more)); }

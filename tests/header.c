@@ -324,10 +324,12 @@ static void selections(void)
 static void nulls(void)
 {
     uint8_t table[LUPINENBLATT_ROW_BYTES] = {0}, tray[LUPINENBLATT_TRAY_BYTES], list[1] = {0}, classes[LUPINENBLATT_CLASSES] = {0};
-    lupinenblatt_answer a = lupinenblatt_table_check(NULL, 0);
+    lupinenblatt_answer a = lupinenblatt_table_check(NULL, 0, NULL, 0, NULL, 0);
     lupinenblatt_fault f = lupinenblatt_table_fault(NULL, 0, NULL, 0, NULL, 0);
     lupinenblatt_ran r;
     memset(books, 0, sizeof books);
+    CHECK(a.outcome == LUPINENBLATT_UNSOUND && a.count == 0);
+    a = lupinenblatt_table_check(NULL, 0, NULL, 0, books, sizeof books);
     CHECK(a.outcome == LUPINENBLATT_DONE && a.count == 0);
     CHECK(f.clause == LUPINENBLATT_TABLE_FAULT_BOOKS && f.place == 0 && f.second == 0);
     f = lupinenblatt_books_fault(NULL, 0, NULL, 0);

@@ -14,8 +14,6 @@
 #include <utility>
 #include <vector>
 
-#include "sizes.h"  // ONE_LINE, and nothing else
-
 // The stand-in (stand_in.cpp) takes this file a second time, under another name and perhaps with a mistake in it.
 #ifndef MODEL
 #define MODEL paper
@@ -119,7 +117,7 @@ inline std::optional<Code> partnerOf(const Books &b, Code code) {
 
 // [A3.1] The line that a TN names: the TN, or in a split pair the TN under the smaller of the two codes. By the split list alone.
 inline Tn lineOf(const Books &b, Tn tn) {
-    std::optional<Code> partner = ONE_LINE ? partnerOf(b, codeOf(tn)) : std::nullopt;
+    std::optional<Code> partner = partnerOf(b, codeOf(tn));
     if (!partner || codeOf(tn) < *partner) return tn;
     return Tn{*partner * 10000 + tn.digits % 10000};
 }
@@ -273,16 +271,14 @@ inline bool soundNumbers(const std::vector<Version> &used, const Books &b) {
 // [T2] By TN and then version number.
 inline bool rising(const Version &a, const Version &b) { return a.tn < b.tn || (a.tn == b.tn && a.number < b.number); }
 
-// [T1] [T2] [A3.5] The books say what a line is. Where they are none or unsound each TN is judged alone: the whole is unsound anyway.
-inline bool sound(const Table &t, const std::optional<Books> &b) {
-    static const Books none;
-    const Books &books = b && sound(*b) ? *b : none;
+// [T1] [T2] [A3.5] With sound books: they say what a line is.
+inline bool sound(const Table &t, const Books &b) {
     if (t.used.size() + t.freeRows > 4096) return false;
     for (size_t i = 0; i < t.used.size(); i++) {
         if (!sound(t.used[i])) return false;
         if (i > 0 && !rising(t.used[i - 1], t.used[i])) return false;
     }
-    return soundCounts(t.used, books) && soundNumbers(t.used, books);
+    return soundCounts(t.used, b) && soundNumbers(t.used, b);
 }
 
 // ---- The event record -----------------------------------------------------------------------------------------------------------------
@@ -801,7 +797,7 @@ struct Result {
 // A table or books that are no value at all are given as nothing, a record that is none likewise. [O2] comes before [O9].
 inline Result step(std::optional<Table> &t, const std::optional<Books> &b, uint64_t R, const std::optional<Event> &e, size_t trayPlaces) {
     Result r;
-    if (!t || !sound(*t, b) || !b || !sound(*b) || R > 7 || trayPlaces < 64) r.outcome = UNSOUND;
+    if (!b || !sound(*b) || !t || !sound(*t, *b) || R > 7 || trayPlaces < 64) r.outcome = UNSOUND;
     else if (!e || !wellFormed(*e)) r.outcome = MALFORMED;
     else r.outcome = outcomeOf(*t, *b, *e);
     if (r.outcome == DONE) r.messages = done(*t, *b, R, *e);

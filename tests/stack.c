@@ -21,7 +21,7 @@ static uint64_t ran;
 
 static void empty(void) {}
 
-/* One event on a table of 4,096 rows, with every provider and every place of the books used. */
+/* One event on a table of 4,096 rows in lines with two names, with every provider and every place of the books used. */
 static void step(void)
 {
     done += lupinenblatt_step(table, sizeof table, providers, sizeof providers, books, sizeof books, MOST_RETRIES, event, sizeof event,
@@ -40,12 +40,12 @@ static void run(void)
                            (size_t)recorded * RECORD, tray, sizeof tray, outcomes, sizeof outcomes).events;
 }
 
-static void table_check(void) { lupinenblatt_table_check(table, sizeof table); }
+static void table_check(void) { lupinenblatt_table_check(table, sizeof table, providers, sizeof providers, books, sizeof books); }
 static void books_check(void) { lupinenblatt_books_check(providers, sizeof providers, books, sizeof books); }
 static void selection(void)
 {
     static uint8_t classes[CLASS_PLACES];
-    told += lupinenblatt_selection(providers, sizeof providers, books, sizeof books, told == 0 ? 4042000100u : 5052000100u, classes,
+    told += lupinenblatt_selection(providers, sizeof providers, books, sizeof books, told == 0 ? 4042000100u : 5052010100u, classes,
                                    sizeof classes) == LUPINENBLATT_DONE;
 }
 
@@ -93,9 +93,11 @@ static void tell(const char *name, void (*f)(void))
     printf("%s %lu\n", name, (unsigned long)bytes);
 }
 
+/* Creates have the name whose code is listed, the others either name of the line. */
 static void put_event(uint64_t kind, uint64_t sender, uint64_t other, uint64_t mark, uint64_t lrn, uint64_t version, uint64_t due)
 {
-    lupinenblatt_event e = {kind, sender, other, mark, 0, 3035550100u, lrn, version, now++, due};
+    uint64_t tn = kind <= LUPINENBLATT_OLD_CREATES || now % 2 == 0 ? 3035550100u : 6062000100u;
+    lupinenblatt_event e = {kind, sender, other, mark, 0, tn, lrn, version, now++, due};
     lupinenblatt_event_write(e, event, sizeof event);
     if (recorded < EVENTS)
         memcpy(events + RECORD * (size_t)recorded++, event, sizeof event);
@@ -118,14 +120,16 @@ static void each_kind(void)
     put_event(15, 0, 0, 0, 0, 1, 0), tell("step_default, kind 15", step_default);
 }
 
-/* Old versions of other numbers: as many as leave a row free. */
+/* Old versions of other lines: as many as leave a row free, of nearly every line one under each name. */
 static void fill_table(void)
 {
     static const uint8_t row[] = {0x2d, 0x3b, 0xb4, 0x65, 0x00, 0x00, 0x5d, 0x80, 0x2d, 0x3b, 0xb4, 0x4c, 0x02, 0x05, 0x00, 0x00,
                                   0x00, 0x00, 0x00, 0x64, 0x00, 0x00, 0x00, 0x64, 0x00, 0x00, 0x00, 0x01};
     for (unsigned i = 0; i < MOST_ROWS - 1; i++) {
         uint8_t *place = table + (size_t)i * ROW;
-        uint64_t first = (uint64_t)(3035560000u + i) << 30 | (uint64_t)1 << 14 | 7 << 10 | 1 << 8 | 1 << 7;
+        unsigned larger = i >= MOST_ROWS / 2;
+        uint64_t tn = larger ? 6062001000u + (i - MOST_ROWS / 2) : 3035551000u + i;
+        uint64_t first = tn << 30 | (uint64_t)(1 + larger) << 14 | 7 << 10 | 1 << 8 | 1 << 7;
         memcpy(place, row, sizeof row);
         for (unsigned b = 0; b < 8; b++)
             place[b] = (uint8_t)(first >> (56 - 8 * b));
@@ -141,7 +145,7 @@ int main(void)
     for (unsigned i = 0; i < FILTERS; i++)
         lupinenblatt_books_put_filter(books, i, 1 + i / 100, 404200 + i % 100);
     for (unsigned i = 0; i < SPLITS; i++)
-        lupinenblatt_books_put_pair(books, i, 505200 + i, 606200 + i);
+        lupinenblatt_books_put_pair(books, i, i == 0 ? 303555 : 505200 + i, 606200 + i);
     fill_table();
     if (lupinenblatt_table_fault(table, sizeof table, providers, sizeof providers, books, sizeof books).clause != 0) {
         printf("the table or the books are unsound\n");
@@ -153,6 +157,13 @@ int main(void)
     tell("run", run), tell("table_check", table_check), tell("books_check", books_check);
     tell("selection", selection), tell("selection, a code of a pair", selection);
     tell("record_read", record_read), tell("record_write", record_write), tell("table_fault", table_fault), tell("books_fault", books_fault);
+    table[(size_t)(MOST_ROWS - 2) * ROW + 6] ^= 0xc0;  /* version 2 becomes 1, which the line has under its other name */
+    if (lupinenblatt_table_fault(table, sizeof table, providers, sizeof providers, books, sizeof books).clause
+        != LUPINENBLATT_TABLE_FAULT_LINE_NUMBER) {
+        printf("the last line is not at fault\n");
+        return 1;
+    }
+    tell("table_check, the last line at fault", table_check), tell("table_fault, the last line at fault", table_fault);
     table[sizeof table - 1] = 1, books[sizeof books - 2] = 1;
     tell("table_fault, unsound", table_fault), tell("books_fault, unsound", books_fault);
     if (done != 70 || ran != recorded || told != 2) {

@@ -32,17 +32,12 @@ extern "C" lupinenblatt_answer lupinenblatt_step_default(uint8_t *table, size_t 
     return lupinenblatt_step(table, tableLength, providers, providersLength, books, booksLength, DEFAULT_R, event, eventLength, tray, trayLength);
 }
 
-#if ONE_LINE
-extern "C" lupinenblatt_answer TABLE_CHECK_OF_LINES(const uint8_t *table, size_t tableLength, const uint8_t *providers,
-                                                    size_t providersLength, const uint8_t *books, size_t booksLength) {
-    std::optional<Books> b = unpackBooks(providers, providersLength, books, booksLength);
-#else
-extern "C" lupinenblatt_answer lupinenblatt_table_check(const uint8_t *table, size_t tableLength) {
-    std::optional<Books> b;
-#endif
+extern "C" lupinenblatt_answer lupinenblatt_table_check(const uint8_t *table, size_t tableLength, const uint8_t *providers,
+                                                        size_t providersLength, const uint8_t *books, size_t booksLength) {
     std::optional<Table> t = unpackTable(table, tableLength);
+    std::optional<Books> b = unpackBooks(providers, providersLength, books, booksLength);
     lupinenblatt_answer answer = {UNSOUND, 0};
-    if (t && sound(*t, b)) answer = {DONE, t->used.size()};
+    if (b && sound(*b) && t && sound(*t, *b)) answer = {DONE, t->used.size()};
     return answer;
 }
 
@@ -78,7 +73,7 @@ extern "C" lupinenblatt_ran lupinenblatt_run(uint8_t *table, size_t tableLength,
     std::optional<Table> t = unpackTable(table, tableLength);
     std::optional<Books> b = unpackBooks(providers, providersLength, books, booksLength);
     size_t places = trayLength / MESSAGE, count = eventsLength / RECORD;
-    if (!t || !sound(*t, b) || !b || !sound(*b)) return ran;
+    if (!b || !sound(*b) || !t || !sound(*t, *b)) return ran;
     if (retries > 7) return ran;
     if (places < PLACES) return ran;
     if (outcomesLength < 2 * count) return ran;
