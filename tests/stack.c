@@ -157,7 +157,7 @@ int main(void)
     tell("run", run), tell("table_check", table_check), tell("books_check", books_check);
     tell("selection", selection), tell("selection, a code of a pair", selection);
     tell("record_read", record_read), tell("record_write", record_write), tell("table_fault", table_fault), tell("books_fault", books_fault);
-    table[(size_t)(MOST_ROWS - 2) * ROW + 6] ^= 0xc0;  /* version 2 becomes 1, which the line has under its other name */
+    table[(size_t)(MOST_ROWS - 1) * ROW + 6] ^= 0xc0;  /* version 2 becomes 1, which the line has under its other name */
     if (lupinenblatt_table_fault(table, sizeof table, providers, sizeof providers, books, sizeof books).clause
         != LUPINENBLATT_TABLE_FAULT_LINE_NUMBER) {
         printf("the last line is not at fault\n");
