@@ -220,8 +220,9 @@ fn pair_fits(t: &[u8], n: usize, c: u64, d: u64) -> bool
 }
 
 // Whether the rows of each line of a sound table may stand together, by the split pairs of sound books. A pair costs at most two searches and
-// one pass over the rows under its codes. Where a line has rows under both, each under the second code costs a search more, and one that is
-// live, sending or worked a look at those under the first. A row of no pair costs nothing. [A3.5]
+// one pass over the rows under its codes. Where a line has rows under both, each under the second code costs a look at those under the first,
+// up to its number and at most eight before a search, and one that is live, sending or worked a look at all of them. A row of no pair costs
+// nothing. [A3.5]
 pub fn sound(books: &[u8], t: &[u8], n: usize) -> bool
     requires { ⌜ SoundTable (now t) n ⌝ }
     requires { ⌜ (length (now books) ≡ bookBytes) × (soundSplits (splitsOf (now books)) ≡ true) ⌝ }
