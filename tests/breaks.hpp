@@ -135,7 +135,7 @@ inline void addNumbers(Dice &d, Table &t, const Books &b, size_t rows) {
     for (const Version &v : t.used) known.insert(smallerName(b, v.tn));
     while (t.used.size() < rows) {
         Tn tn{(b.splits.empty() || d.chance(70) ? anyCode(d) : d.pick(b.splits).one) * 10000 + d.below(10000)};
-        if (known.insert(smallerName(b, tn)).second) makeVersionsOf(d, s, namesOf(b, tn), t.used);
+        if (known.insert(smallerName(b, tn)).second) makeVersionsOf(d, s, namesOf(b, tn), t.used, mostVersions(d));
     }
     if (t.used.size() > MOST_ROWS) t.used.resize(MOST_ROWS);
     sortRows(t.used);

@@ -33,7 +33,7 @@ enum Reason : size_t { FREE, OWN_CODE_OF_PAIR, OTHER_CODE_OF_PAIR, ABSENT_IN_LIS
                        NO_SYSTEM_AND_FILTERS, ONE_FILTER, TWO_FILTERS, REASONS };
 
 // What happens on lines with two names, as far as it is counted apart.
-enum OnLine : size_t { RETIRED, CONCURRED, NUMBERED, BUSY_BY_OTHER, EARLY_BY_OTHER, LIVE_BY_OTHER, OWN_OWNER, OTHER_OWNER, ON_LINE };
+enum OnLine : size_t { RETIRED, CONCURRED, NUMBERED, BUSY_BY_OTHER, EARLY_BY_OTHER, LIVE_BY_OTHER, OWN_OWNER, OTHER_OWNER, MANY, ON_LINE };
 
 struct Tally {
     uint64_t events = 0, differ = 0, records = 0, exchanged = 0, unsoundAfter = 0, checks = 0, runs = 0, stops = 0;
@@ -137,6 +137,7 @@ struct LineBefore {
     bool fresh = false, create = false, newestOther = false, sendingOther = false;
     Time ownStamp = 0, otherStamp = 0;      // the largest of the versions under the event's name, and under the other
     Provider owner = 0, partnersOwner = 0;  // of the event's code, of its partner
+    size_t own = 0, others = 0;             // versions under the event's name, and under the other
 };
 
 LineBefore lineBefore(const std::optional<Table> &table, const std::optional<Books> &books, const std::optional<Event> &e) {
@@ -146,10 +147,9 @@ LineBefore lineBefore(const std::optional<Table> &table, const std::optional<Boo
     const Version *v = l.create ? workedVersion(*table, *books, e->tn) : findVersion(*table, *books, e->tn, e->version);
     std::vector<const Version *> all = versionsOf(*table, *books, e->tn);
     uint64_t last = newest(*table, *books, e->tn);
-    bool own = false;
     for (const Version *o : all) {
         bool apart = o->tn != (v && !l.create ? v->tn : e->tn);
-        own = own || o->tn == e->tn;
+        (o->tn == e->tn ? l.own : l.others)++;
         if (o->live) l.live = *o;
         if (o->number == last) l.newestOther = apart;
         if (o->status == SENDING && apart) l.sendingOther = true;
@@ -158,7 +158,7 @@ LineBefore lineBefore(const std::optional<Table> &table, const std::optional<Boo
     }
     if (v) l.meant = *v;
     l.fresh = l.create && !v;
-    l.other = v ? v->tn != e->tn : !all.empty() && !own;
+    l.other = v ? v->tn != e->tn : !all.empty() && l.own == 0;
     l.owner = ownerOf(*books, codeOf(e->tn)), l.partnersOwner = ownerOf(*books, codeOf(*otherName(*books, e->tn)));
     return l;
 }
@@ -184,6 +184,7 @@ void countLine(const LineBefore &l, const std::optional<Event> &e, uint64_t outc
     tally.onLine[EARLY_BY_OTHER] += early && e->time >= l.ownStamp && e->time < l.otherStamp;
     tally.onLine[LIVE_BY_OTHER] += done && l.create && l.live && l.live->tn != e->tn;
     tally.onLine[OWN_OWNER] += judged && done;
+    tally.onLine[MANY] += l.own > 12 && l.others > 12;
     tally.onLine[OTHER_OWNER] += judged && outcome == NOT_CURRENT && (e->kind == NEW_CREATES ? e->other : e->sender) == l.partnersOwner;
 }
 
@@ -831,7 +832,7 @@ bool printLines() {
         "fresh version numbered above one under the other name", "busy by a sending version under the other name",
         "too early by the stamp under the other name alone", "create done, the current provider by a live version under the other name",
         "no live version, two owners: create done by the owner of the event's code",
-        "no live version, two owners: the partner's owner gets 12"};
+        "no live version, two owners: the partner's owner gets 12", "more than twelve versions under each name"};
     bool good = true;
     std::printf("%llu events on lines in split pairs; under another name than the row's\nkind           done   refused\n",
                 (unsigned long long)tally.splitLines);

@@ -176,11 +176,11 @@ inline Version makeVersion(Dice &d, const Situation &s, Tn tn, uint64_t number, 
 }
 
 // The versions of a line with these names, under one of them or under both; by numbers and marks they are sound as versions of one line.
-inline void makeVersionsOf(Dice &d, Situation &s, const std::vector<Tn> &names, std::vector<Version> &out) {
+inline void makeVersionsOf(Dice &d, Situation &s, const std::vector<Tn> &names, std::vector<Version> &out, uint64_t most = 5) {
     bool live = false, sending = false, workedOne = false, mixed = d.chance(75);
     Tn name = d.pick(names);
     size_t first = out.size();
-    uint64_t count = d.below(6), number = d.chance(12) ? LAST_VERSION - 3 * count + d.below(3) : 0;
+    uint64_t count = d.below(most + 1), number = d.chance(12) ? LAST_VERSION - 3 * count + d.below(3) : 0;
     for (uint64_t i = 0; i < count; i++) {
         number += i + 1 == count && d.chance(10) ? LAST_VERSION - number : d.between(1, 3);
         if (number > LAST_VERSION) break;
@@ -209,6 +209,9 @@ inline std::vector<Tn> namesOf(const Books &b, Tn tn) {
     return other ? std::vector<Tn>{tn, *other} : std::vector<Tn>{tn};
 }
 
+// How many versions a line has at the most: a few, now and then so many that rows of one name stand far apart.
+inline uint64_t mostVersions(Dice &d) { return d.chance(4) ? d.between(8, 60) : 5; }
+
 inline void sortRows(std::vector<Version> &rows) {
     std::sort(rows.begin(), rows.end(), [](const Version &a, const Version &b) { return rising(a, b); });
 }
@@ -228,7 +231,7 @@ inline void makeTable(Dice &d, Situation &s, const std::vector<Code> &homes, siz
     for (uint64_t n = d.chance(30) ? d.below(8) : 0; n > 0; n--) add(Tn{anyTenDigits(d)});
     if (d.chance(1) && d.chance(30))
         while (lines.size() < 1800) add(Tn{anyTenDigits(d)});
-    for (Tn line : lines) makeVersionsOf(d, s, namesOf(s.books, line), s.table.used);
+    for (Tn line : lines) makeVersionsOf(d, s, namesOf(s.books, line), s.table.used, mostVersions(d));
     sortRows(s.table.used);
     size_t most = d.chance(50) ? MOST_ROWS : MOST_ROWS - 96;
     if (s.table.used.size() > most) s.table.used.resize(most);
