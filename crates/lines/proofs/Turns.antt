@@ -1,26 +1,17 @@
--- The pass over the places of the split list: what a place decides, and what it leaves to the places behind it; and that sound books have sound
--- splits. Assumes nothing.
+-- The pass over the places of the split list: what a place decides, and what it leaves to the places behind it. Assumes nothing.
 use mathlib.Core.Path.{_≡_, sym, ap, _∙_, subst}
 use mathlib.Core.Bool.{Bool, true, false, _&&_}
 use mathlib.Core.List.{List, _∷_, map}
 use Prim.Native.Nat.{ℕ, _+_, _/_, _%_, _^_, _≤_, _<_}
-use Rattle.model.specs.declared.Marks.{Marks}
 use Rattle.model.specs.declared.Version.{Version}
 use Rattle.model.specs.Basics.{all}
 use Rattle.model.specs.Numbers.{isCode}
-use Rattle.model.specs.Books.{Split, soundMarks, soundCodes, soundFilters, soundSplits, soundBooks}
+use Rattle.model.specs.Books.{Split}
 use Rattle.model.proofs.Lists.{and-l, and-r}
-use Rattle.books.specs.Packed.{splitOf, codesOf, filtersOf, splitsOf, soundBytes}
+use Rattle.books.specs.Packed.{splitOf}
 use Rattle.books.specs.Places.{restOf, used-none, used-more, used-end}
-use Rattle.books.specs.Given.{sound-books}
 use Rattle.lines.specs.Pairs.{pairFits, pairsFit}
 use Rattle.model.proofs.Partners.{codes, code-below}
-
--- what a caller that checked the books has
-pub bytes-splits : (m : Marks) (bs : List ℕ) → soundBytes m bs ≡ true → soundSplits (splitsOf bs) ≡ true
-unfolding soundBooks
-bytes-splits m bs e =
-    and-r (soundMarks m && soundCodes m (codesOf bs) && soundFilters m (filtersOf bs)) (soundSplits (splitsOf bs)) (sound-books m bs e)
 
 -- the pairs from place i on, of n places in all
 abbrev pub pairsFrom : (ℕ → ℕ) → ℕ → ℕ → List Split
