@@ -59,7 +59,7 @@ pub data Exchangeable (line : ℕ → ℕ) (e f : Event) : Type 0 where
 
 -- ---- what stays
 
--- what one system is sent about one line
+-- what one system is sent about one line [A3.6]
 abbrev pub isFor : (ℕ → ℕ) → Bool → ℕ → ℕ → Message → Bool
 isFor line local provider l m = iff (m .local) local && eqb (m .provider) provider && eqb (line (m .id .tn .0)) l
 

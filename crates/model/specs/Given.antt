@@ -36,7 +36,7 @@ otherThan n k = not (eqb (k .number) n)
 abbrev pub besides : ℕ → List Version → List Version
 besides n r = keep (λ (v : Version). otherThan n (v .id)) r
 
--- the version that the event names, by line and number, if it is in the table
+-- the version that the event names, by line and number, if it is in the table [A3.2, A3.3]
 abbrev pub found : Given → Option Version
 found g = withNumber (g .event .version) (g .rows)
 

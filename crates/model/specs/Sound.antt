@@ -183,11 +183,11 @@ oneEach r = leb (count live r) 1 && leb (count sends r) 1 && leb (count worked r
 abbrev pub numbered : ℕ → Version → Bool
 numbered n v = eqb (v .id .number) n
 
--- no version number twice
+-- no version number twice [A3.5]
 unfoldable pub noneTwice : List Version → Bool
 noneTwice r = all (λ (v : Version). leb (count (numbered (v .id .number)) r) 1) r
 
--- the rows of one line may stand together [V11]
+-- the rows of one line may stand together [V11, A3.5]
 unfoldable pub soundLine : List Version → Bool
 soundLine r = oneEach r && noneTwice r
 
