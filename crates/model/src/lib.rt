@@ -132,3 +132,133 @@ pub enum Class {
     FilterOnly,
     FiltersBoth,
 }
+
+// The numbers by which records, rows and messages name these things. Code above writes the names.
+
+// Kinds of events. [E2]
+pub mod kind {
+    pub const NEW_CREATES: u8 = 1;
+
+    pub const OLD_CREATES: u8 = 2;
+
+    pub const NEW_MODIFIES: u8 = 3;
+
+    pub const OLD_MODIFIES: u8 = 4;
+
+    pub const ACTIVATE: u8 = 5;
+
+    pub const CANCEL: u8 = 6;
+
+    pub const ACKNOWLEDGE_CANCEL: u8 = 7;
+
+    pub const RESOLVE_CONFLICT: u8 = 8;
+
+    pub const MODIFY_ACTIVE: u8 = 9;
+
+    pub const DISCONNECT: u8 = 10;
+
+    pub const REPLY: u8 = 11;
+
+    pub const SILENCE: u8 = 12;
+
+    pub const WINDOW_RAN_OUT: u8 = 13;
+
+    pub const RESEND: u8 = 14;
+
+    pub const PURGE: u8 = 15;
+}
+
+// An event's mark, and an old side's authorization. [E1, V2]
+pub mod mark {
+    pub const NONE: u8 = 0;
+
+    pub const YES: u8 = 1;
+
+    pub const NO: u8 = 2;
+}
+
+// Statuses of a version. [V1]
+pub mod status {
+    pub const PENDING: u8 = 0;
+
+    pub const CONFLICT: u8 = 1;
+
+    pub const CANCEL_PENDING: u8 = 2;
+
+    pub const SENDING: u8 = 3;
+
+    pub const FAILED: u8 = 4;
+
+    pub const PARTIAL_FAILURE: u8 = 5;
+
+    pub const ACTIVE: u8 = 6;
+
+    pub const OLD: u8 = 7;
+
+    pub const CANCELED: u8 = 8;
+    // The last of them.
+    pub const LAST: u8 = CANCELED;
+}
+
+// Purposes of a broadcast. [V8]
+pub mod purpose {
+    pub const NONE: u8 = 0;
+
+    pub const ACTIVATE: u8 = 1;
+
+    pub const MODIFY: u8 = 2;
+
+    pub const DISCONNECT: u8 = 3;
+
+    pub const LAST: u8 = DISCONNECT;
+}
+
+// Who cancelled. [K1]
+pub mod canceller {
+    pub const NOBODY: u8 = 0;
+
+    pub const NEW: u8 = 1;
+
+    pub const OLD: u8 = 2;
+
+    pub const LAST: u8 = OLD;
+}
+
+// Who sends, to a version. [G1]
+pub mod standing {
+    pub const NEW: u8 = 0;
+
+    pub const OLD: u8 = 1;
+
+    pub const NPAC: u8 = 2;
+
+    pub const OTHER: u8 = 3;
+}
+
+// Sorts of messages. A download's is DOWNLOAD and its purpose. [Y2]
+pub mod sort {
+    pub const CREATION: u8 = 1;
+
+    pub const STATUS: u8 = 2;
+
+    pub const ATTRIBUTES: u8 = 3;
+
+    pub const DOWNLOAD: u8 = 3;
+
+    pub const WINDOW: u8 = 7;
+}
+
+// The largest provider, version number, cause, retry number and table, in rows; and the places that a tray has at least.
+pub mod limit {
+    pub const PROVIDERS: u8 = 63;
+
+    pub const NUMBER: u16 = 65535;
+
+    pub const CAUSE: u8 = 99;
+
+    pub const RETRIES: u8 = 7;
+
+    pub const ROWS: usize = 4096;
+
+    pub const PLACES: usize = 64;
+}
