@@ -5,7 +5,9 @@ use mathlib.Core.Bool.{Bool, cond, not, _&&_}
 use mathlib.Core.List.{List, [], _∷_, _++_}
 use lib.Dec.{eqb, ltb}
 use Rattle.systems.specs.Set.{member}
+use Rattle.model.specs.Kinds as kind
 use Rattle.model.specs.Retries.{used, withUsed}
+use Rattle.model.specs.Sound.{yes}
 use Rattle.model.specs.Table.{put}
 use Rattle.model.specs.Versions.{recast}
 use Rattle.model.specs.Given.{Result, accept}
@@ -18,7 +20,7 @@ use Rattle.model.specs.declared.Message.{Message}
 
 -- the Local SMS that replies, or is silent
 abbrev pub answering : Event → ℕ
-answering e = cond (eqb (e .kind) 11) (e .sender) (e .other)
+answering e = cond (eqb (e .kind) kind.reply) (e .sender) (e .other)
 
 -- in waiting [W1]
 abbrev pub awaited : Event → Version → Bool
@@ -26,10 +28,10 @@ awaited e v = member (v .cast .waiting) (answering e)
 
 -- a silence with fewer than R retries used asks again [W2]
 unfoldable pub again : ℕ → Event → Broadcast → Bool
-again most e c = eqb (e .kind) 12 && ltb (used (c .retries) (answering e)) most
+again most e c = eqb (e .kind) kind.silence && ltb (used (c .retries) (answering e)) most
 
 abbrev pub succeeds : Event → Bool
-succeeds e = eqb (e .kind) 11 && eqb (e .mark) 1
+succeeds e = eqb (e .kind) kind.reply && eqb (e .mark) yes
 
 -- System p, which has used d retries, is asked again, or leaves the waiting with its retries: to the confirmed, or to the failed. [W1, W2]
 abbrev pub moves : Bool → Bool → ℕ → ℕ → Broadcast → Broadcast

@@ -7,7 +7,7 @@ use lib.Dec.{eqb, ltb, leb}
 use lib.ListN.{length}
 use Rattle.systems.specs.Set.{member}
 use Rattle.model.specs.Basics.{any, all, every, implies}
-use Rattle.model.specs.Numbers.{isCode, isProvider, isSet}
+use Rattle.model.specs.Numbers.{isCode, isProvider, isSet, lastProvider}
 use Rattle.model.specs.declared.Marks.{Marks}
 
 -- a code and its owner
@@ -85,7 +85,7 @@ lineOf bk tn = lineIn (bk .splits) tn
 -- "runs a Local SMS" only with "present" [B1]
 unfoldable pub soundMarks : Marks → Bool
 soundMarks m =
-    isSet (m .present) && isSet (m .local) && every (λ (p : ℕ). implies (member (m .local) p) (member (m .present) p)) 63
+    isSet (m .present) && isSet (m .local) && every (λ (p : ℕ). implies (member (m .local) p) (member (m .present) p)) lastProvider
 
 -- the codes stand strictly above c
 abbrev pub codesAbove : ℕ → List Owned → Bool
@@ -127,5 +127,8 @@ soundBooks bk =
     soundMarks (bk .marks) && soundCodes (bk .marks) (bk .codes) && soundFilters (bk .marks) (bk .filters) && soundSplits (bk .splits)
 
 -- Retry number R, 0 to 7. [B5]
+abbrev pub mostRetries : ℕ
+mostRetries = 7
+
 abbrev pub soundRetries : ℕ → Bool
-soundRetries most = leb most 7
+soundRetries most = leb most mostRetries

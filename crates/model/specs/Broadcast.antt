@@ -5,6 +5,7 @@ use mathlib.Core.Bool.{Bool, cond}
 use mathlib.Core.List.{List, _∷_, _++_}
 use lib.Dec.{eqb}
 use Rattle.systems.specs.Set.{meet}
+use Rattle.model.specs.Kinds as kind
 use Rattle.model.specs.Books.{Books}
 use Rattle.model.specs.Selection.{selectedFor}
 use Rattle.model.specs.Retries.{noRetries}
@@ -19,11 +20,11 @@ use Rattle.model.specs.declared.Event.{Event}
 use Rattle.model.specs.declared.Version.{Version}
 
 abbrev pub resends : Event → Bool
-resends e = eqb (e .kind) 14
+resends e = eqb (e .kind) kind.resend
 
 -- 5, 9, 10 take purpose activate, modify, disconnect; 14 keeps the purpose. [D2, D3]
 abbrev pub purposeFor : Event → Version → ℕ
-purposeFor e v = cond (resends e) (v .cast .purpose) (cond (eqb (e .kind) 5) activate (cond (eqb (e .kind) 9) modify disconnect))
+purposeFor e v = cond (resends e) (v .cast .purpose) (cond (eqb (e .kind) kind.activate) activate (cond (eqb (e .kind) kind.modifyActive) modify disconnect))
 
 -- 5, 9, 10 ask all selected systems; 14 asks those failed that are selected now. [D2, D3]
 unfoldable pub askedFor : ℕ → Event → Version → ℕ
@@ -31,7 +32,7 @@ askedFor selected e v = cond (resends e) (meet (v .cast .failed) selected) selec
 
 -- 9 replaces the LRN at once. [D1]
 abbrev pub newFor : Event → Version → NewSide
-newFor e v = cond (eqb (e .kind) 9) (rerouted (v .new) (e .lrn) (v .new .due)) (v .new)
+newFor e v = cond (eqb (e .kind) kind.modifyActive) (rerouted (v .new) (e .lrn) (v .new .due)) (v .new)
 
 -- The status becomes sending, the start the event's time; 5, 9, 10 clear confirmed and failed, 14 keeps confirmed, and who is not asked leaves the
 -- failed set; retries start at 0. [D1, D2, D3, D4]

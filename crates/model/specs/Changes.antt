@@ -4,6 +4,7 @@ use Prim.Native.Nat.{ℕ}
 use mathlib.Core.Bool.{Bool, true, cond, _&&_, _||_}
 use mathlib.Core.List.{[], _∷_}
 use lib.Dec.{eqb}
+use Rattle.model.specs.Kinds as kind
 use Rattle.model.specs.Table.{put}
 use Rattle.model.specs.Versions.{restated, rerouted, reauthorized}
 use Rattle.model.specs.Sound.{pending, conflict, cancelPending, canceled, yes, no}
@@ -26,7 +27,7 @@ oldModified e v =
     (v .canceller) (v .window)
 
 abbrev pub modified : Event → Version → Version
-modified e v = cond (eqb (e .kind) 3) (newModified e v) (oldModified e v)
+modified e v = cond (eqb (e .kind) kind.newModifies) (newModified e v) (oldModified e v)
 
 abbrev pub modifies : Event → Version → Result
 modifies e v = accept (restatedTold v (modified e v)) (put (modified e v) ∷ [])

@@ -5,6 +5,7 @@ use mathlib.Core.Bool.{Bool, true, false, cond, not, _&&_}
 use mathlib.Core.Option.{Option, none, some}
 use mathlib.Core.List.{List, [], _∷_}
 use lib.Dec.{eqb}
+use Rattle.model.specs.Kinds as kind
 use Rattle.model.specs.Numbers.{codeOf}
 use Rattle.model.specs.Books.{Books, ownerOf}
 use Rattle.model.specs.Table.{put, add}
@@ -22,7 +23,7 @@ use Rattle.model.specs.declared.Version.{Version}
 
 -- the two providers that a create names
 abbrev pub byNew : Event → Bool
-byNew e = eqb (e .kind) 1
+byNew e = eqb (e .kind) kind.newCreates
 
 abbrev pub newIn : Event → ℕ
 newIn e = cond (byNew e) (e .sender) (e .other)

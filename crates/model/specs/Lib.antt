@@ -1,5 +1,6 @@
 pub mod Basics
 pub mod Numbers
+pub mod Kinds
 pub mod Books
 pub mod Table
 pub mod Retries

@@ -18,8 +18,11 @@ abbrev pub isCode : ℕ → Bool
 isCode c = leb 200000 c && ltb c 1000000 && leb 2 (c / 100 % 10)
 
 -- Providers are 1 to 63. [N4]
+abbrev pub lastProvider : ℕ
+lastProvider = 63
+
 abbrev pub isProvider : ℕ → Bool
-isProvider p = leb 1 p && leb p 63
+isProvider p = leb 1 p && leb p lastProvider
 
 -- a set of providers, as a 64-bit number
 abbrev pub isSet : ℕ → Bool
@@ -30,5 +33,12 @@ abbrev pub isTime : ℕ → Bool
 isTime t = leb 1 t && ltb t (2 ^ 32)
 
 -- Version numbers are 1 to 65,535. [T2]
+abbrev pub lastNumber : ℕ
+lastNumber = 65535
+
 abbrev pub isNumber : ℕ → Bool
-isNumber n = leb 1 n && leb n 65535
+isNumber n = leb 1 n && leb n lastNumber
+
+-- Causes are 1 to 99. [E3]
+abbrev pub lastCause : ℕ
+lastCause = 99

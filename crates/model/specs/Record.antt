@@ -5,30 +5,32 @@ use mathlib.Core.Bool.{Bool, false, cond, not, _&&_, _||_}
 use mathlib.Core.List.{[], _∷_}
 use lib.Dec.{ltb, leb, eqb}
 use Rattle.model.specs.Basics.{among}
-use Rattle.model.specs.Numbers.{tenDigits}
+use Rattle.model.specs.Kinds as kind
+use Rattle.model.specs.Numbers.{tenDigits, lastCause}
+use Rattle.model.specs.Sound.{yes, no}
 use Rattle.model.specs.declared.Event.{Event}
 
 -- ---- the kinds
 
 -- 1 new side creates, 2 old side creates
 abbrev pub isCreate : ℕ → Bool
-isCreate k = among k (1 ∷ 2 ∷ [])
+isCreate k = among k (kind.newCreates ∷ kind.oldCreates ∷ [])
 
 -- 11 reply, 12 silence
 abbrev pub isAnswer : ℕ → Bool
-isAnswer k = among k (11 ∷ 12 ∷ [])
+isAnswer k = among k (kind.reply ∷ kind.silence ∷ [])
 
 -- 3 modify new, 4 modify old
 abbrev pub isModify : ℕ → Bool
-isModify k = among k (3 ∷ 4 ∷ [])
+isModify k = among k (kind.newModifies ∷ kind.oldModifies ∷ [])
 
 -- 5 activate, 9 modify active, 10 disconnect, 14 resend
 abbrev pub isBroadcast : ℕ → Bool
-isBroadcast k = among k (5 ∷ 9 ∷ 10 ∷ 14 ∷ [])
+isBroadcast k = among k (kind.activate ∷ kind.modifyActive ∷ kind.disconnect ∷ kind.resend ∷ [])
 
 -- 5 activate, 6 cancel, 7 acknowledge cancel, 8 resolve conflict, 10 disconnect, 13 window ran out, 14 resend, 15 purge
 abbrev pub isPlain : ℕ → Bool
-isPlain k = (leb 5 k && leb k 8) || eqb k 10 || (leb 13 k && leb k 15)
+isPlain k = (leb kind.activate k && leb k kind.resolve) || eqb k kind.disconnect || (leb kind.windowRanOut k && leb k kind.purge)
 
 -- ---- the fields besides TN and time [E2, E3]
 
@@ -44,11 +46,11 @@ twoSides a b = named a && named b && not (eqb a b)
 
 -- authorization, with cause 1 to 99 with "no" and 0 with "yes"
 abbrev pub authorizes : ℕ → ℕ → Bool
-authorizes mark cause = (eqb mark 1 && unused cause) || (eqb mark 2 && named cause && leb cause 99)
+authorizes mark cause = (eqb mark yes && unused cause) || (eqb mark no && named cause && leb cause lastCause)
 
 -- a result: success or failure
 abbrev pub results : ℕ → Bool
-results mark = eqb mark 1 || eqb mark 2
+results mark = eqb mark yes || eqb mark no
 
 -- 1: sender, other = old, LRN, due
 abbrev pub newCreates : Event → Bool
@@ -93,13 +95,13 @@ silent e =
 unfoldable pub kindFits : Event → Bool
 kindFits e =
     cond (isPlain (e .kind)) (plainly e)
-    (cond (eqb (e .kind) 1) (newCreates e)
-    (cond (eqb (e .kind) 2) (oldCreates e)
-    (cond (eqb (e .kind) 3) (newModifies e)
-    (cond (eqb (e .kind) 4) (oldModifies e)
-    (cond (eqb (e .kind) 9) (modifiesActive e)
-    (cond (eqb (e .kind) 11) (replies e)
-    (cond (eqb (e .kind) 12) (silent e) false)))))))
+    (cond (eqb (e .kind) kind.newCreates) (newCreates e)
+    (cond (eqb (e .kind) kind.oldCreates) (oldCreates e)
+    (cond (eqb (e .kind) kind.newModifies) (newModifies e)
+    (cond (eqb (e .kind) kind.oldModifies) (oldModifies e)
+    (cond (eqb (e .kind) kind.modifyActive) (modifiesActive e)
+    (cond (eqb (e .kind) kind.reply) (replies e)
+    (cond (eqb (e .kind) kind.silence) (silent e) false)))))))
 
 -- ---- the whole record
 

@@ -5,7 +5,8 @@ use mathlib.Core.Bool.{Bool, false, cond, not, _&&_, _||_}
 use mathlib.Core.List.{List}
 use lib.Dec.{eqb, ltb, leb}
 use Rattle.model.specs.Basics.{any, holds, isNone}
-use Rattle.model.specs.Numbers.{codeOf}
+use Rattle.model.specs.Kinds as kind
+use Rattle.model.specs.Numbers.{codeOf, lastNumber}
 use Rattle.model.specs.Books.{Books, present, ownerOf}
 use Rattle.model.specs.Record.{isCreate, isAnswer, isBroadcast}
 use Rattle.model.specs.Sound.{failure, sends}
@@ -36,7 +37,7 @@ abbrev pub beforeStart : Event → Version → Bool
 beforeStart e v = ltb (e .time) (v .cast .start)
 
 abbrev pub beforeDue : Event → Version → Bool
-beforeDue e v = eqb (e .kind) 5 && ltb (e .time) (v .new .due)
+beforeDue e v = eqb (e .kind) kind.activate && ltb (e .time) (v .new .due)
 
 unfoldable pub early : Given → Bool
 early g =
@@ -48,15 +49,15 @@ early g =
 unfoldable pub busyWith : Event → List Version → List Version → Version → Bool
 busyWith e r others v =
     cond (isBroadcast (e .kind))
-    (any sends others || (eqb (e .kind) 14 && eqb (v .status) failure && ltb (v .id .number) (newest r)))
-    (eqb (e .kind) 15 && leb (newest r) (v .id .number))
+    (any sends others || (eqb (e .kind) kind.resend && eqb (v .status) failure && ltb (v .id .number) (newest r)))
+    (eqb (e .kind) kind.purge && leb (newest r) (v .id .number))
 
 unfoldable pub busy : Given → Bool
 busy g = cond (isCreate (g .event .kind)) (any sends (g .rows)) (holds (found g) (busyWith (g .event) (g .rows) (rest g)))
 
 -- Not awaited. Kinds 11, 12: not in waiting. [W1] 7 by the canceller; 13 with nothing to do. [K2, K4]
 abbrev pub idle : Event → Version → Bool
-idle e v = cond (eqb (e .kind) 7) (ownCancel e v) (eqb (e .kind) 13 && windowSpent v)
+idle e v = cond (eqb (e .kind) kind.acknowledge) (ownCancel e v) (eqb (e .kind) kind.windowRanOut && windowSpent v)
 
 unfoldable pub unawaited : Given → Bool
 unawaited g =
@@ -76,7 +77,7 @@ anotherDue g = holds (workedOne (g .rows)) (λ (v : Version). fits (g .event) v 
 
 -- A fresh version, and number 65,535 is used. [C2]
 unfoldable pub exhausted : Given → Bool
-exhausted g = isNone (workedOne (g .rows)) && leb 65535 (newest (g .rows))
+exhausted g = isNone (workedOne (g .rows)) && leb lastNumber (newest (g .rows))
 
 -- A fresh version, and no free row. [C2]
 unfoldable pub full : Given → Bool

@@ -4,7 +4,7 @@ use Prim.Native.Nat.{ℕ}
 use mathlib.Core.Bool.{Bool, cond, not, _&&_, _||_}
 use lib.Dec.{eqb}
 use Rattle.systems.specs.Set.{maskOf}
-use Rattle.model.specs.Numbers.{codeOf}
+use Rattle.model.specs.Numbers.{codeOf, lastProvider}
 use Rattle.model.specs.Books.{Books, present, runs, partnerOf, filters}
 use Rattle.model.specs.declared.Tn.{Tn}
 use Rattle.model.specs.declared.Class.{Class}
@@ -41,4 +41,4 @@ selects bk code p = isSelected (classOf bk code p)
 
 -- The set of the selected: broadcast and resend take it. [A8.2]
 unfoldable pub selectedFor : Books → Tn → ℕ
-selectedFor bk tn = maskOf (selects bk (codeOf tn)) 63
+selectedFor bk tn = maskOf (selects bk (codeOf tn)) lastProvider

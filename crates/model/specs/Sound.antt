@@ -7,7 +7,7 @@ use lib.Dec.{eqb, ltb, leb}
 use lib.ListN.{length}
 use Rattle.systems.specs.Set.{member}
 use Rattle.model.specs.Basics.{iff, implies, all, keep, among, every}
-use Rattle.model.specs.Numbers.{tenDigits, isProvider, isSet, isTime, isNumber}
+use Rattle.model.specs.Numbers.{tenDigits, isProvider, isSet, isTime, isNumber, lastProvider, lastCause}
 use Rattle.model.specs.Retries.{used}
 use Rattle.model.specs.Table.{order, sel, rowsOf}
 use Rattle.model.specs.declared.Id.{Id}
@@ -46,6 +46,10 @@ old = 7
 abbrev pub canceled : ℕ
 canceled = 8
 
+-- canceled is the last of them
+abbrev pub isStatus : ℕ → Bool
+isStatus s = leb s canceled
+
 -- *worked*: pending, conflict, cancel-pending
 abbrev pub isWorked : ℕ → Bool
 isWorked s = among s (pending ∷ conflict ∷ cancelPending ∷ [])
@@ -67,12 +71,19 @@ modify = 2
 abbrev pub disconnect : ℕ
 disconnect = 3
 
+abbrev pub isPurpose : ℕ → Bool
+isPurpose p = leb p disconnect
+
 -- authorization: 0 none, 1 yes, 2 no
 abbrev pub yes : ℕ
 yes = 1
 
 abbrev pub no : ℕ
 no = 2
+
+-- who cancelled: 0 nobody, 1 the new side, 2 the old side
+abbrev pub isCanceller : ℕ → Bool
+isCanceller c = leb c 2
 
 -- ---- a version
 
@@ -82,13 +93,13 @@ retriesInRange r = ltb (r .low) (2 ^ 63) && ltb (r .mid) (2 ^ 63) && ltb (r .hig
 
 unfoldable pub castInRange : Broadcast → Bool
 castInRange c =
-    leb (c .purpose) 3 && ltb (c .start) (2 ^ 32) && isSet (c .confirmed) && isSet (c .waiting) && isSet (c .failed)
+    isPurpose (c .purpose) && ltb (c .start) (2 ^ 32) && isSet (c .confirmed) && isSet (c .waiting) && isSet (c .failed)
     && retriesInRange (c .retries)
 
 unfoldable pub inRange : Version → Bool
 inRange v =
-    tenDigits (v .id .tn .0) && isNumber (v .id .number) && leb (v .status) 8 && isTime (v .stamp) && isProvider (v .new .provider)
-    && isProvider (v .old .provider) && leb (v .canceller) 2 && castInRange (v .cast)
+    tenDigits (v .id .tn .0) && isNumber (v .id .number) && isStatus (v .status) && isTime (v .stamp) && isProvider (v .new .provider)
+    && isProvider (v .old .provider) && isCanceller (v .canceller) && castInRange (v .cast)
 
 -- new and old provider are different [V1]
 abbrev pub sidesDiffer : Version → Bool
@@ -113,7 +124,7 @@ sidesNeeded v =
 
 -- cause 1 to 99 exactly with "no" [V4]
 unfoldable pub causeFits : OldSide → Bool
-causeFits s = cond (eqb (s .authorization) no) (leb 1 (s .cause) && leb (s .cause) 99) (eqb (s .cause) 0)
+causeFits s = cond (eqb (s .authorization) no) (leb 1 (s .cause) && leb (s .cause) lastCause) (eqb (s .cause) 0)
 
 -- canceller marked exactly in cancel-pending [V5]
 abbrev pub cancellerFits : Version → Bool
@@ -121,14 +132,14 @@ cancellerFits v = iff (ltb 0 (v .canceller)) (eqb (v .status) cancelPending)
 
 -- no provider is in both
 unfoldable pub apart : ℕ → ℕ → Bool
-apart a b = every (λ (p : ℕ). not (member a p && member b p)) 63
+apart a b = every (λ (p : ℕ). not (member a p && member b p)) lastProvider
 
 -- the sets disjoint, retries above 0 only for waiting systems [V6]
 unfoldable pub setsApart : Broadcast → Bool
 setsApart c = apart (c .confirmed) (c .waiting) && apart (c .confirmed) (c .failed) && apart (c .waiting) (c .failed)
 
 unfoldable pub retriesFit : Broadcast → Bool
-retriesFit c = every (λ (p : ℕ). member (c .waiting) p || eqb (used (c .retries) p) 0) 63
+retriesFit c = every (λ (p : ℕ). member (c .waiting) p || eqb (used (c .retries) p) 0) lastProvider
 
 -- start non-zero exactly when sending; waiting is non-empty exactly when sending [V7]
 abbrev pub startFits : Version → Bool
@@ -206,6 +217,9 @@ rising (x ∷ xs) = above (x .id) xs
 unfoldable pub soundLines : (ℕ → ℕ) → List Version → Bool
 soundLines line t = all (λ (v : Version). soundLine (rowsOf line (line (v .id .tn .0)) t)) t
 
+abbrev pub mostRows : ℕ
+mostRows = 4096
+
 -- A table of so many rows, at most 4,096, of which these are used. [T1]
 unfoldable pub soundTable : (ℕ → ℕ) → ℕ → List Version → Bool
-soundTable line rows t = leb rows 4096 && leb (length t) rows && rising t && all soundVersion t && soundLines line t
+soundTable line rows t = leb rows mostRows && leb (length t) rows && rising t && all soundVersion t && soundLines line t

@@ -5,6 +5,7 @@ use mathlib.Core.Bool.{Bool, cond, not, _&&_, _||_}
 use mathlib.Core.List.{[], _∷_}
 use lib.Dec.{eqb, ltb, leb}
 use Rattle.model.specs.Basics.{among}
+use Rattle.model.specs.Kinds as kind
 use Rattle.model.specs.Sound.{pending, conflict, cancelPending, failure, partialFailure, active, old, canceled}
 use Rattle.model.specs.declared.Event.{Event}
 use Rattle.model.specs.declared.Version.{Version}
@@ -42,27 +43,27 @@ cancellerAs standing = suc standing
 -- Kinds 3, 5, 9, 10: new; 4: old; 6, 7, 8: either; 13, 14, 15: NPAC. [G1]
 abbrev pub standsFor : ℕ → ℕ → Bool
 standsFor k w =
-    cond (among k (3 ∷ 5 ∷ 9 ∷ 10 ∷ [])) (eqb w asNew)
-    (cond (eqb k 4) (eqb w asOld)
-    (cond (among k (6 ∷ 7 ∷ 8 ∷ [])) (leb w asOld)
+    cond (among k (kind.newModifies ∷ kind.activate ∷ kind.modifyActive ∷ kind.disconnect ∷ [])) (eqb w asNew)
+    (cond (eqb k kind.oldModifies) (eqb w asOld)
+    (cond (among k (kind.cancel ∷ kind.acknowledge ∷ kind.resolve ∷ [])) (leb w asOld)
     (eqb w asNpac)))
 
 -- Statuses: 3, 4, 6 in pending or conflict; 5 pending; 7 cancel-pending; 8 conflict; 9, 10 active; 13 pending or cancel-pending; 14 failed,
 -- partial-failure or active; 15 old or canceled. [G2]
 abbrev pub statusFor : ℕ → ℕ → Bool
 statusFor k s =
-    cond (among k (3 ∷ 4 ∷ 6 ∷ [])) (among s (pending ∷ conflict ∷ []))
-    (cond (eqb k 5) (eqb s pending)
-    (cond (eqb k 7) (eqb s cancelPending)
-    (cond (eqb k 8) (eqb s conflict)
-    (cond (among k (9 ∷ 10 ∷ [])) (eqb s active)
-    (cond (eqb k 13) (among s (pending ∷ cancelPending ∷ []))
-    (cond (eqb k 14) (among s (failure ∷ partialFailure ∷ active ∷ []))
+    cond (among k (kind.newModifies ∷ kind.oldModifies ∷ kind.cancel ∷ [])) (among s (pending ∷ conflict ∷ []))
+    (cond (eqb k kind.activate) (eqb s pending)
+    (cond (eqb k kind.acknowledge) (eqb s cancelPending)
+    (cond (eqb k kind.resolve) (eqb s conflict)
+    (cond (among k (kind.modifyActive ∷ kind.disconnect ∷ [])) (eqb s active)
+    (cond (eqb k kind.windowRanOut) (among s (pending ∷ cancelPending ∷ []))
+    (cond (eqb k kind.resend) (among s (failure ∷ partialFailure ∷ active ∷ []))
     (among s (old ∷ canceled ∷ []))))))))
 
 -- the kinds of the grid, 3 to 10 and 13 to 15, and their places in it
 abbrev pub isGridKind : ℕ → Bool
-isGridKind k = (leb 3 k && leb k 10) || (leb 13 k && leb k 15)
+isGridKind k = (leb kind.newModifies k && leb k kind.disconnect) || (leb kind.windowRanOut k && leb k kind.purge)
 
 abbrev pub placeOf : ℕ → ℕ
 placeOf k = cond (ltb k 11) (k - 3) (k - 5)
@@ -78,9 +79,9 @@ gridRule s k w = cond (standsFor k w) (cond (statusFor k s) 0 7) 6
 -- active where failed is empty. [G3]
 unfoldable pub unready : Event → Version → Bool
 unready e v =
-    cond (eqb (e .kind) 5) (not (v .old .created || v .window))
-    (cond (among (e .kind) (9 ∷ 10 ∷ [])) (not (eqb (v .cast .failed) 0))
-    (eqb (e .kind) 14 && eqb (v .status) active && eqb (v .cast .failed) 0))
+    cond (eqb (e .kind) kind.activate) (not (v .old .created || v .window))
+    (cond (among (e .kind) (kind.modifyActive ∷ kind.disconnect ∷ [])) (not (eqb (v .cast .failed) 0))
+    (eqb (e .kind) kind.resend && eqb (v .status) active && eqb (v .cast .failed) 0))
 
 -- the sender lacks the standing
 abbrev pub lacksStanding : Event → Version → Bool

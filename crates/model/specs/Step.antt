@@ -6,6 +6,7 @@ use mathlib.Core.Option.{Option, none, some}
 use mathlib.Core.List.{List, [], _∷_, _++_}
 use lib.Dec.{eqb, ltb, leb}
 use lib.ListN.{length}
+use Rattle.model.specs.Kinds as kind
 use Rattle.model.specs.Books.{Books, soundBooks, soundRetries, lineOf}
 use Rattle.model.specs.Table.{strike, rowsOf, changes}
 use Rattle.model.specs.Sound.{soundTable}
@@ -35,10 +36,10 @@ purges v = accept [] (strike (v .id) ∷ [])
 unfoldable pub manages : Books → Event → Version → List Version → Result
 manages bk e v others =
     cond (isModify (e .kind)) (modifies e v)
-    (cond (eqb (e .kind) 6) (turns (cancelled e v))
-    (cond (eqb (e .kind) 7) (turns (acknowledged e v))
-    (cond (eqb (e .kind) 8) (turns (resolved e v))
-    (cond (eqb (e .kind) 13) (windowRuns e v)
+    (cond (eqb (e .kind) kind.cancel) (turns (cancelled e v))
+    (cond (eqb (e .kind) kind.acknowledge) (turns (acknowledged e v))
+    (cond (eqb (e .kind) kind.resolve) (turns (resolved e v))
+    (cond (eqb (e .kind) kind.windowRanOut) (windowRuns e v)
     (cond (isBroadcast (e .kind)) (broadcasts bk e v others)
     (purges v))))))
 

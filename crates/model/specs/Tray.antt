@@ -5,6 +5,7 @@ use mathlib.Core.Bool.{Bool, true, false, cond}
 use mathlib.Core.List.{List, [], _∷_, _++_, map}
 use lib.Dec.{eqb}
 use Rattle.systems.specs.Set.{member}
+use Rattle.model.specs.Numbers.{lastProvider}
 use Rattle.model.specs.Sound.{activate}
 use Rattle.model.specs.declared.Lrn.{Lrn}
 use Rattle.model.specs.declared.Version.{Version}
@@ -51,7 +52,7 @@ membersTo s zero l = l
 membersTo s (suc n) l = membersTo s n (cond (member s (suc n)) (suc n ∷ l) l)
 
 unfoldable pub members : ℕ → List ℕ
-members s = membersTo s 63 []
+members s = membersTo s lastProvider []
 
 -- ---- what is told
 
