@@ -3,6 +3,7 @@
 use mathlib.Core.Path.{_≡_}
 use mathlib.Core.Bool.{true, false}
 use Prim.Native.Nat.{ℕ, _≤_}
+use Rattle.model.specs.Numbers.{lastProvider}
 use Rattle.systems.specs.Set.{member}
 use Rattle.model.specs.declared.Broadcast.{Broadcast}
 use Rattle.retries.specs.Words.{Words}
@@ -10,7 +11,7 @@ use Rattle.retries.specs.Words.{Words}
 -- system p is waited for, and is in neither of the other sets
 pub record Waits (c : Broadcast) (p : ℕ) : Type 0 where
   pub named : 1 ≤ p
-  pub few : p ≤ 63
+  pub few : p ≤ lastProvider
   pub waiting : member (c .waiting) p ≡ true
   pub unconfirmed : member (c .confirmed) p ≡ false
   pub unfailed : member (c .failed) p ≡ false

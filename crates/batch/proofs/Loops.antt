@@ -11,6 +11,7 @@ use lib.Dec.{leb}
 use lib.ListN.{length, take, drop, getD, length-drop, drop-of-length-le}
 use lib.Seq.{drop-cons}
 use borrow.Author.Tests.{lt-leb, le-leb}
+use Rattle.packing.specs.Layout.{RECORD}
 use Rattle.model.specs.Given.{Result}
 use Rattle.providers.specs.declared.Listed.{Listed}
 use Rattle.rows.specs.Chunks.{chunks}
@@ -22,7 +23,7 @@ use Rattle.checks.specs.Checks.{fitting, soundnessLent}
 use Rattle.engine.proofs.Keeping.{result-few}
 use Rattle.model.proofs.Lists.{and-l}
 use Rattle.batch.specs.declared.Ran.{Ran}
-use Rattle.batch.specs.Batch.{RECORD, recordsIn, Stand, behind, after, resultAt, steps, begin, Went, Turned}
+use Rattle.batch.specs.Batch.{recordsIn, Stand, behind, after, resultAt, steps, begin, Went, Turned}
 
 -- the tray behind m messages has so many places
 places-are : (y : List ℕ) (m : ℕ) → placesIn (drop (24 * m) y) ≡ (length y - 24 * m) / 24

@@ -8,6 +8,7 @@ use mathlib.Core.List.{List, map}
 use lib.Dec.{eqb, leb}
 use lib.ListN.{length}
 use borrow.Author.Tests.{eq-eqb, ne-eqb, le-leb, lt-leb}
+use Rattle.packing.specs.Layout.{RECORD}
 use Rattle.model.proofs.Lists.{clash}
 use Rattle.providers.specs.declared.Listed.{Listed}
 use Rattle.scan.specs.declared.Soundness.{Soundness}
@@ -16,7 +17,7 @@ use Rattle.tray.specs.Tray.{placesIn}
 use Rattle.checks.specs.Checks.{fitting, soundnessLent}
 use Rattle.engine.specs.Step.{formed}
 use Rattle.batch.specs.declared.Ran.{Ran}
-use Rattle.batch.specs.Batch.{RECORD, recordsIn, Stand, steps, begin, refusal, leaves, refusedWith, Went}
+use Rattle.batch.specs.Batch.{recordsIn, Stand, steps, begin, refusal, leaves, refusedWith, Went}
 
 module _ (l : Listed) (b : List ℕ) (most : ℕ) (es t y o : List ℕ) where
   abbrev N : ℕ

@@ -6,6 +6,7 @@ use mathlib.Core.Bool.{Bool, true, cond, _&&_}
 use mathlib.Core.List.{List, [], _∷_, _++_, map}
 use lib.Dec.{eqb, leb}
 use lib.ListN.{length, take, drop, set}
+use Rattle.packing.specs.Layout.{RECORD}
 use Rattle.model.specs.Outcomes.{numberOf}
 use Rattle.model.specs.Given.{Result}
 use Rattle.model.specs.Step.{PLACES}
@@ -19,10 +20,6 @@ use Rattle.engine.specs.Event.{tableAfter}
 use Rattle.checks.specs.Checks.{soundnessLent}
 use Rattle.engine.specs.Step.{formed, resultIn}
 use Rattle.batch.specs.declared.Ran.{Ran}
-
--- a record's bytes
-abbrev pub RECORD : ℕ
-RECORD = 24
 
 abbrev pub recordsIn : List ℕ → List (List ℕ)
 recordsIn es = chunks RECORD (length es / RECORD) es

@@ -11,7 +11,8 @@ ghost use Rattle.scan.specs.Sound.{SoundTable};
 ghost use Rattle.scan.specs.declared.Soundness.the-variants.{Sound};
 ghost use Rattle.tray.specs.Tray.{messageSize, placesIn};
 ghost use Rattle.checks.specs.Checks.{fitting, soundnessLent};
-ghost use Rattle.batch.specs.Batch.{RECORD, recordsIn, Stand, resultAt, steps, begin, refusal, leaves, refusedWith, Went, Turned};
+ghost use Rattle.packing.specs.Layout.{RECORD};
+ghost use Rattle.batch.specs.Batch.{recordsIn, Stand, resultAt, steps, begin, refusal, leaves, refusedWith, Went, Turned};
 
 const RECORD: usize = 24;
 

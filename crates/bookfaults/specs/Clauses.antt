@@ -8,7 +8,7 @@ use lib.Dec.{eqb, ltb, leb}
 use lib.ListN.{length, getD}
 use Rattle.systems.specs.Set.{member}
 use Rattle.model.specs.Basics.{among}
-use Rattle.model.specs.Numbers.{isCode, isProvider}
+use Rattle.model.specs.Numbers.{isCode, isProvider, lastProvider}
 use Rattle.model.specs.declared.Marks.{Marks}
 use Rattle.faults.specs.declared.Found.{Found}
 use Rattle.faults.specs.declared.Fault.{Fault}
@@ -23,7 +23,7 @@ abbrev pub markFound : List ℕ → ℕ → Found
 markFound p i = firstBroken (alone 2 (among (getD p i 0) (0 ∷ 1 ∷ 3 ∷ [])) ∷ []) (foundAt 0 0)
 
 unfoldable pub providersFault : List ℕ → Fault
-providersFault p = cond (leb (length p) 63) (firstFault (markFound p) (length p) 0) (broken 1)
+providersFault p = cond (leb (length p) lastProvider) (firstFault (markFound p) (length p) 0) (broken 1)
 
 -- ---- places of the books: place i is x, and the one before it is `last`
 

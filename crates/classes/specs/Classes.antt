@@ -6,7 +6,7 @@ use mathlib.Core.Bool.{Bool, cond, _&&_}
 use mathlib.Core.List.{List, [], _∷_, _++_, map}
 use lib.Dec.{eqb}
 use lib.ListN.{length}
-use Rattle.model.specs.Numbers.{tenDigits, codeOf}
+use Rattle.model.specs.Numbers.{tenDigits, codeOf, lastProvider}
 use Rattle.model.specs.Books.{Books}
 use Rattle.model.specs.Selection.{classOf, classNumber}
 use Rattle.model.specs.declared.Class.{Class}
@@ -28,11 +28,11 @@ soundLists p b = listed (map entryOf p) .sound && soundBytes (listed (map entryO
 
 -- the numbers of all providers' classes for a TN
 abbrev pub classesFor : List ℕ → List ℕ → ℕ → List ℕ
-classesFor p b tn = numbersOf (classOf (booksOf p b) (codeOf (record { 0 = tn }))) 63
+classesFor p b tn = numbersOf (classOf (booksOf p b) (codeOf (record { 0 = tn }))) lastProvider
 
 -- 1 where provider list or books are unsound, else 2 where it is no TN or there are not 63 places, else 0 [O2, A8.1]
 unfoldable pub answerFor : List ℕ → List ℕ → ℕ → ℕ → ℕ
-answerFor p b tn places = cond (soundLists p b) (cond (tenDigits tn && eqb places 63) 0 2) 1
+answerFor p b tn places = cond (soundLists p b) (cond (tenDigits tn && eqb places lastProvider) 0 2) 1
 
 -- Place n - 1 has the number of provider n's class; where it is refused, all places are as they were. [F4, A8.1]
 pub record Classified (p b : List ℕ) (tn : ℕ) (before after : List ℕ) (r : ℕ) : Type 0 where

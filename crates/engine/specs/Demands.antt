@@ -6,12 +6,13 @@ use Prim.Native.Nat.{ℕ, _+_, _≤_}
 use mathlib.Core.Bool.{Bool, true, false}
 use mathlib.Core.List.{List, [], _∷_, _++_, map}
 use lib.ListN.{length}
+use Rattle.model.specs.Step.{PLACES}
 use Rattle.octets.specs.Octets.{Bytes, be}
 use Rattle.octets.specs.Fields.{cut}
 use Rattle.model.specs.Basics.{All}
 use Rattle.model.specs.Outcomes.{numberOf}
 use Rattle.model.specs.Exchange.{Exchangeable, May, reorder, mailOf}
-use Rattle.packing.specs.Layout.{widths, eventOf, readEvent}
+use Rattle.packing.specs.Layout.{widths, eventOf, readEvent, RECORD}
 use Rattle.providers.specs.Providers.{listed, entryOf}
 use Rattle.scan.specs.Sound.{rowsIn}
 use Rattle.lines.specs.Lines.{lineBy}
@@ -31,7 +32,7 @@ isRecord Malformed = false
 
 -- the fields that stand in a record's bytes
 abbrev pub fieldsIn : List ℕ → Event
-fieldsIn e = eventOf (cut widths (be 24 e 0))
+fieldsIn e = eventOf (cut widths (be RECORD e 0))
 
 module _ (p b : List ℕ) (most : ℕ) (y : List ℕ) where
   -- the table after one record
@@ -58,7 +59,7 @@ module _ (p b : List ℕ) (most : ℕ) (y : List ℕ) where
     pub free : used + length es ≤ rowsIn t
     pub formed : All (λ (e : List ℕ). isRecord (readEvent e) ≡ true) es
     pub retries : most ≤ 7
-    pub places : 64 ≤ placesIn y
+    pub places : PLACES ≤ placesIn y
 
   -- the same final bytes, the same outcome for each record, and for each system and line the same messages in the same order
   pub record SameBytes (ns : List ℕ) (es : List (List ℕ)) (t : List ℕ) : Type 0 where

@@ -7,6 +7,7 @@ use mathlib.Core.Option.{some}
 use mathlib.Core.List.{List}
 use lib.Dec.{ltb}
 use lib.ListN.{length}
+use Rattle.model.specs.Step.{PLACES}
 use Rattle.model.specs.Table.{changes, rowsOf}
 use Rattle.model.specs.Numbers.{codeOf}
 use Rattle.model.specs.Books.{ownerOf}
@@ -55,7 +56,7 @@ pub record KnownTo (m : Marks) (b : List ℕ) (R : ℕ) (row : Bool) (e : Event)
 pub record Ready (m : Marks) (b : List ℕ) (e : Event) (k : ℕ) : Type 0 where
   pub sound : soundBytes m b ≡ true
   pub formed : wellFormed e ≡ true
-  pub places : 64 ≤ k
+  pub places : PLACES ≤ k
 
 -- the table after a result: where it is done, the bytes of the changed versions
 abbrev pub tableAfter : Result → List ℕ → List ℕ

@@ -5,6 +5,7 @@ use mathlib.Core.Bool.{Bool, true, false, cond, not, _&&_, _||_}
 use mathlib.Core.Option.{Option, none, some}
 use mathlib.Core.List.{List, [], _∷_}
 use lib.Dec.{eqb, ltb, leb}
+use Rattle.model.specs.Numbers.{lastNumber}
 use Rattle.model.specs.Basics.{among, holds, isNone}
 use Rattle.model.specs.Record.{isBroadcast}
 use Rattle.model.specs.Sound.{failure}
@@ -48,7 +49,7 @@ createTests e absent owner f free =
     ∷ not (eqb (oldIn e) (currentOr owner (theOne (f .live))))
     ∷ holds (theOne (f .worked)) (λ (v : Version). not (fits e v))
     ∷ holds (theOne (f .worked)) (λ (v : Version). fits e v && not (agrees e v))
-    ∷ (isNone (theOne (f .worked)) && leb 65535 (f .newest))
+    ∷ (isNone (theOne (f .worked)) && leb lastNumber (f .newest))
     ∷ (isNone (theOne (f .worked)) && not free)
     ∷ []
 

@@ -43,9 +43,13 @@ eventOf fs =
       due = getD fs 9 0;
     }
 
+-- a record's bytes [E1]
+abbrev pub RECORD : ℕ
+RECORD = 24
+
 -- the record of an event [E1]
 unfoldable pub bytesOf : Event → List ℕ
-bytesOf e = digits 24 (join widths (fieldsOf e))
+bytesOf e = digits RECORD (join widths (fieldsOf e))
 
 -- what fields and spare bits read as: spare bits that are not zero are malformed [E1, E5]
 unfoldable pub readFields : List ℕ → Reading
@@ -53,11 +57,11 @@ readFields fs = cond (eqb (getD fs 10 0) 0 && wellFormed (eventOf fs)) (Record (
 
 -- what bytes read as: 24 of them, and well formed, or malformed [E1, E5, O9]
 unfoldable pub readEvent : List ℕ → Reading
-readEvent xs = cond (eqb (length xs) 24) (readFields (cut widths (be 24 xs 0))) Malformed
+readEvent xs = cond (eqb (length xs) RECORD) (readFields (cut widths (be RECORD xs 0))) Malformed
 
 -- Writing malformed fields, or to another length, returns 2 and writes nothing. [E5]
 abbrev pub writable : Event → List ℕ → Bool
-writable e xs = eqb (length xs) 24 && wellFormed e
+writable e xs = eqb (length xs) RECORD && wellFormed e
 
 -- what a write of an event to the bytes xs leaves there, and says
 pub record Written (e : Event) (xs ys : List ℕ) (r : ℕ) : Type 0 where

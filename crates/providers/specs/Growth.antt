@@ -6,6 +6,7 @@ use mathlib.Core.List.{List}
 use lib.Bits.{bitOr}
 use lib.Dec.{ltb}
 use lib.ListN.{getD}
+use Rattle.model.specs.Numbers.{lastProvider}
 use Rattle.model.specs.declared.Provider.{Provider}
 use Rattle.providers.specs.declared.Listed.{Listed}
 use Rattle.providers.specs.Providers.{absent, nobody, unsound}
@@ -16,7 +17,7 @@ markOf s on i = cond on (bitOr s (2 ^ (i + 1))) s
 
 -- a list that was sound so far is sound with the record x at place i
 abbrev pub addsTo : Bool → Provider → ℕ → Bool
-addsTo sound x i = sound && ltb i 63 && (x .present || not (x .local))
+addsTo sound x i = sound && ltb i lastProvider && (x .present || not (x .local))
 
 -- what a list says, once its record at place i is read too
 abbrev pub grownBy : Listed → Provider → ℕ → Listed

@@ -5,6 +5,7 @@ use mathlib.Core.Bool.{Bool, true, false, cond, not, _&&_, _||_}
 use mathlib.Core.List.{List}
 use lib.Dec.{eqb, leb}
 use lib.ListN.{length, getD}
+use Rattle.model.specs.Numbers.{lastProvider}
 use Rattle.systems.specs.Set.{maskOf}
 use Rattle.model.specs.Basics.{all, implies}
 use Rattle.model.specs.declared.Provider.{Provider}
@@ -21,7 +22,7 @@ fine x = implies (x .local) (x .present)
 
 -- the list is sound: at most 63 records, each of them sound; a longer list is not cut [B1]
 abbrev pub soundList : List Provider → Bool
-soundList l = leb (length l) 63 && all fine l
+soundList l = leb (length l) lastProvider && all fine l
 
 -- the marks of provider p, at place p - 1 [B1]
 abbrev pub presentAt : List Provider → ℕ → Bool
@@ -32,7 +33,7 @@ localAt l p = getD l (p - 1) absent .local
 
 -- the list's marks as sets
 abbrev pub marksOf : List Provider → Marks
-marksOf l = record { present = maskOf (presentAt l) 63; local = maskOf (localAt l) 63 }
+marksOf l = record { present = maskOf (presentAt l) lastProvider; local = maskOf (localAt l) lastProvider }
 
 abbrev pub nobody : Marks
 nobody = record { present = 0; local = 0 }

@@ -11,7 +11,7 @@ use lib.ListN.{length, getD}
 use Rattle.octets.specs.Octets.{Bytes}
 use Rattle.model.specs.declared.Version.{Version}
 use Rattle.model.specs.Table.{inLine, rowsOf}
-use Rattle.model.specs.Sound.{count, live, sends, worked, oneEach, noneTwice, soundLine, rising, soundVersion, soundLines, soundTable}
+use Rattle.model.specs.Sound.{count, live, sends, worked, oneEach, noneTwice, soundLine, rising, soundVersion, soundLines, soundTable, mostRows}
 use Rattle.words.specs.Size.{ROW}
 use Rattle.row.specs.Layout.{keyOf}
 use Rattle.model.specs.Basics.{all, none, with}
@@ -26,7 +26,7 @@ use Rattle.scan.specs.declared.Scan.the-variants.{Bad, Open, Ended}
 use Rattle.scan.specs.declared.Soundness.the-variants.{Sound}
 use Rattle.rows.specs.Table.{piecesOf, decode, encode}
 use Rattle.scan.specs.Join.{start, same, second, follows, next, Chain}
-use Rattle.scan.specs.Sound.{pick, scanRows, scanOf, saidBy, soundnessOf, ROWS, rowsIn, itself, SoundTable}
+use Rattle.scan.specs.Sound.{pick, scanRows, scanOf, saidBy, soundnessOf, rowsIn, itself, SoundTable}
 use Rattle.rows.proofs.Sounds.{AllSound, RisingFrom, number-lt, all-sound, sound-all, rising-rises, rises-rising}
 use Rattle.scan.proofs.Counted.{one, Flags, AtMostOne, oneOf, flags-tally, tally-flags, one-each, each-one}
 use Rattle.rows.proofs.Tables.{encode-length}
@@ -109,7 +109,7 @@ join-each t (v ∷ vs) up l s w =
     (join-each t vs up (and-r (oneOf live t v) (all (oneOf live t) vs) l) (and-r (oneOf sends t v) (all (oneOf sends t) vs) s) (and-r (oneOf worked t v) (all (oneOf worked t) vs) w))
 
 pub record Good (rows : ℕ) (t : List Version) : Type 0 where
-  pub few : rows ≤ ROWS
+  pub few : rows ≤ mostRows
   pub room : length t ≤ rows
   pub sound : AllSound t
   pub rises : RisingFrom 0 t
@@ -156,7 +156,7 @@ good-chain rows t g =
     zero-one true = refl
     zero-one false = refl
 
-pub chain-good : (rows : ℕ) (t : List Version) → rows ≤ ROWS → length t ≤ rows → AllSound t → Chain start t → Good rows t
+pub chain-good : (rows : ℕ) (t : List Version) → rows ≤ mostRows → length t ≤ rows → AllSound t → Chain start t → Good rows t
 chain-good rows t f l a c =
     let p = chain-parts t start a c in
     record {
@@ -190,12 +190,12 @@ pub sound-says : (t : List ℕ) (n : ℕ) → Bytes t → soundnessOf t ≡ Soun
 unfolding soundnessOf scanOf
 sound-says t n y e =
     let h = said-counts (scanOf t) n e in
-    let p = pick-bad (eqb (length t % ROW) 0) (pick (leb (length t) (ROWS * ROW)) (scanRows (Open 0 start) (piecesOf t)) Bad) n h in
-    let q = pick-bad (leb (length t) (ROWS * ROW)) (scanRows (Open 0 start) (piecesOf t)) n (p .1) in
+    let p = pick-bad (eqb (length t % ROW) 0) (pick (leb (length t) (mostRows * ROW)) (scanRows (Open 0 start) (piecesOf t)) Bad) n h in
+    let q = pick-bad (leb (length t) (mostRows * ROW)) (scanRows (Open 0 start) (piecesOf t)) n (p .1) in
     let m : length t % ROW ≡ 0 = eqb-true _ _ (p .0) in
-    let l : length t ≤ ROWS * ROW = leb-true _ _ (q .0) in
+    let l : length t ≤ mostRows * ROW = leb-true _ _ (q .0) in
     let w : length t ≡ rowsIn t * ROW = omega arith in
-    let f : rowsIn t ≤ ROWS = omega arith in
+    let f : rowsIn t ≤ mostRows = omega arith in
     let r = read-table t n w y (q .1) in
     record {
       whole = w;
@@ -211,9 +211,9 @@ pub says-sound : (vs : List Version) (rows : ℕ) → soundTable itself rows vs 
 unfolding soundnessOf scanOf
 says-sound vs rows s =
     let g = table-good rows vs s in
-    let f : rows ≤ ROWS = g .few in
+    let f : rows ≤ mostRows = g .few in
     let e : length (encode vs rows) ≡ rows * ROW = encode-length vs rows (g .room) in
     let p : eqb (length (encode vs rows) % ROW) 0 ≡ true = eq-eqb (length (encode vs rows) % ROW) 0 (omega arith) in
-    let q : leb (length (encode vs rows)) (ROWS * ROW) ≡ true = le-leb (length (encode vs rows)) (ROWS * ROW) (omega arith) in
+    let q : leb (length (encode vs rows)) (mostRows * ROW) ≡ true = le-leb (length (encode vs rows)) (mostRows * ROW) (omega arith) in
     let z : scanOf (encode vs rows) ≡ scanRows (Open 0 start) (piecesOf (encode vs rows)) = rw (p, q) in
     ap saidBy z ∙ counts-said (scanRows (Open 0 start) (piecesOf (encode vs rows))) (length vs) (table-read vs rows (g .sound) (good-chain rows vs g) (g .room))

@@ -6,7 +6,7 @@ use mathlib.Core.Bool.{Bool, true, false, _&&_}
 use mathlib.Core.List.{List, [], _∷_}
 use lib.Dec.{eqb, leb}
 use lib.ListN.{length}
-use Rattle.model.specs.Sound.{soundVersion, soundTable}
+use Rattle.model.specs.Sound.{soundVersion, soundTable, mostRows}
 use Rattle.words.specs.declared.Words.{Words}
 use Rattle.words.specs.Size.{ROW}
 use Rattle.words.specs.Codec.{wordsIn, isBlank}
@@ -43,13 +43,9 @@ unfoldable pub scanRows : Scan → List (List ℕ) → Scan
 scanRows s [] = s
 scanRows s (b ∷ bs) = scanRows (scanRow s (wordsIn b)) bs
 
--- at most so many rows [T1]
-abbrev pub ROWS : ℕ
-ROWS = 4096
-
--- whole rows, not too many, each in order
+-- whole rows, not too many, each in order [T1]
 unfoldable pub scanOf : List ℕ → Scan
-scanOf t = pick (eqb (length t % ROW) 0) (pick (leb (length t) (ROWS * ROW)) (scanRows (Open 0 start) (piecesOf t)) Bad) Bad
+scanOf t = pick (eqb (length t % ROW) 0) (pick (leb (length t) (mostRows * ROW)) (scanRows (Open 0 start) (piecesOf t)) Bad) Bad
 
 abbrev pub saidBy : Scan → Soundness
 saidBy Bad = Unsound
@@ -71,7 +67,7 @@ itself n = n
 -- t is a sound table with n used rows: it is the bytes of what it says, and what it says is sound
 pub record SoundTable (t : List ℕ) (n : ℕ) : Type 0 where
   pub whole : length t ≡ rowsIn t * ROW
-  pub few : rowsIn t ≤ ROWS
+  pub few : rowsIn t ≤ mostRows
   pub is : t ≡ encode (decode t) (rowsIn t)
   pub sound : soundTable itself (rowsIn t) (decode t) ≡ true
   pub count : length (decode t) ≡ n

@@ -7,13 +7,14 @@ use words::Words;
 ghost use mathlib.Core.Path.{_≡_};
 ghost use Prim.Native.Nat.{_+_, _*_, _≤_, _<_};
 ghost use lib.ListN.{length, drop};
+ghost use Rattle.model.specs.Sound.{mostRows};
 ghost use Rattle.words.specs.Size.{ROW};
 ghost use Rattle.words.specs.Codec.{wordsIn, isBlank};
 ghost use Rattle.rows.specs.Place.{rowAt};
 ghost use Rattle.rows.specs.Table.{piecesOf};
 ghost use Rattle.scan.specs.Join.{start};
 ghost use Rattle.scan.specs.Carried.{groupOf, joinedBy, Few};
-ghost use Rattle.scan.specs.Sound.{ROWS, admitOf, scanRows, scanOf, soundnessOf};
+ghost use Rattle.scan.specs.Sound.{admitOf, scanRows, scanOf, soundnessOf};
 
 pub mod join;
 
@@ -87,7 +88,7 @@ fn ended(t: &[u8], used: usize) -> Scan
 
 // The used rows, up to the first that is free or unsound. A row whose first word is 0 is no used one.
 fn over(t: &[u8]) -> Scan
-    requires { ⌜ length (now t) ≤ ROWS * ROW ⌝ }
+    requires { ⌜ length (now t) ≤ mostRows * ROW ⌝ }
     ensures { λ r. ⌜ r ≡ scanRows (Scan.Open 0 start) (piecesOf (now (t .entry))) ⌝ }
 {
     let n = t.len() / ROW;

@@ -3,6 +3,7 @@
 use Prim.Native.Nat.{ℕ, _≤_}
 use mathlib.Core.Path.{_≡_}
 use mathlib.Core.Bool.{cond, not}
+use Rattle.model.specs.Numbers.{lastProvider}
 use Rattle.systems.specs.Set.{member, maskOf}
 use Rattle.model.specs.Books.{Books}
 use Rattle.model.specs.Selection.{classOf, selects}
@@ -19,5 +20,5 @@ classIn r p =
 
 -- For each of the 63 it is the provider's class, and the set is that of the class selected. [A8.1, A8.2]
 pub record Classed (bk : Books) (code : ℕ) (r : Classes) : Type 0 where
-  pub each : (p : ℕ) → 1 ≤ p → p ≤ 63 → classIn r p ≡ classOf bk code p
-  pub selected : r .selected ≡ maskOf (selects bk code) 63
+  pub each : (p : ℕ) → 1 ≤ p → p ≤ lastProvider → classIn r p ≡ classOf bk code p
+  pub selected : r .selected ≡ maskOf (selects bk code) lastProvider

@@ -5,6 +5,7 @@ use mathlib.Core.Path.{_≡_}
 use mathlib.Core.Bool.{Bool, cond, not, _&&_, _||_}
 use lib.Dec.{eqb, ltb}
 use lib.ListN.{length}
+use Rattle.model.specs.Numbers.{lastProvider}
 use Rattle.systems.specs.Set.{maskOf}
 use Rattle.model.specs.Books.{Books, partnerOf}
 use Rattle.model.specs.Selection.{selects}
@@ -24,10 +25,10 @@ comesBefore place wanted = not (eqb place 0) && ltb place wanted
 -- The set of the selected, whether the code stands in a pair, and the looks at the filter list: at most one for each filter, and one more
 -- for each provider, at the place where it stops. [A2.1]
 pub record Passed (bk : Books) (code : ℕ) (r : Pass) : Type 0 where
-  pub selected : r .selected ≡ maskOf (selects bk code) 63
+  pub selected : r .selected ≡ maskOf (selects bk code) lastProvider
   pub paired : r .paired ≡ not (eqb (partnerOf bk code) 0)
-  pub once : r .looks ≤ length (bk .filters) + 63
+  pub once : r .looks ≤ length (bk .filters) + lastProvider
 
 -- so many at the most, with every place used
 abbrev pub mostLooks : ℕ
-mostLooks = 1024 + 63
+mostLooks = 1024 + lastProvider

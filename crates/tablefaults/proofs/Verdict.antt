@@ -15,7 +15,7 @@ use Rattle.model.proofs.Lists.{and-l}
 use Rattle.model.specs.declared.Broadcast.{Broadcast}
 use Rattle.model.specs.declared.Version.{Version}
 use Rattle.model.specs.Numbers.{isSet}
-use Rattle.model.specs.Sound.{retriesInRange, castInRange, inRange, soundVersion, live, sends, worked}
+use Rattle.model.specs.Sound.{retriesInRange, castInRange, inRange, soundVersion, live, sends, worked, mostRows}
 use Rattle.words.specs.declared.Words.{Words}
 use Rattle.words.specs.Size.{ROW}
 use Rattle.words.specs.Codec.{wordsIn, isBlank}
@@ -31,7 +31,7 @@ use Rattle.scan.specs.declared.Scan.the-variants.{Bad, Open, Ended}
 use Rattle.scan.specs.Join.{start, second, either, follows, next, joinOf}
 use Rattle.scan.specs.declared.Soundness.{Soundness}
 use Rattle.scan.specs.declared.Soundness.the-variants.{Unsound, Sound}
-use Rattle.scan.specs.Sound.{ROWS, pick, admitOf, scanRow, scanRows, scanOf, saidBy, soundnessOf}
+use Rattle.scan.specs.Sound.{pick, admitOf, scanRow, scanRows, scanOf, saidBy, soundnessOf}
 use Rattle.scan.proofs.Scans.{scan-step, scan-done, bad-stays}
 use Rattle.tablefaults.specs.Clauses.{setsInRange, restInRange, rangeClauses, sideClauses, castClauses, wordsAt, versionAt, keyAt, freeAt, formClauses, sinks, mark, share, sharer, besideClauses, rowFound, tableFault}
 
@@ -275,7 +275,7 @@ isSound (Sound n) = true
 -- NOTHING IS AT FAULT exactly where the engine's own check says sound
 pub table-verdict : (t : List ℕ) → isFaultless (tableFault t) ≡ isSound (soundnessOf t)
 unfolding tableFault soundnessOf scanOf
-table-verdict t = go (eqb (length t % ROW) 0) (leb (length t) (ROWS * ROW))
+table-verdict t = go (eqb (length t % ROW) 0) (leb (length t) (mostRows * ROW))
   where
     said : (s : Scan) → accepted t s ≡ isSound (saidBy s)
     said Bad = refl

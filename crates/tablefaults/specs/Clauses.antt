@@ -11,13 +11,12 @@ use Rattle.faults.specs.Faults.{Clause, alone, beside, foundAt, firstBroken, be
 use Rattle.model.specs.declared.Broadcast.{Broadcast}
 use Rattle.model.specs.declared.Version.{Version}
 use Rattle.model.specs.Numbers.{tenDigits, isProvider, isSet, isTime, isNumber}
-use Rattle.model.specs.Sound.{retriesInRange, sidesDiffer, newWhole, oldWhole, oneCreated, sidesNeeded, causeFits, cancellerFits, setsApart, retriesFit, startFits, waitingFits, purposeFits, liveFits, liveConfirmed, live, sends, worked}
+use Rattle.model.specs.Sound.{retriesInRange, sidesDiffer, newWhole, oldWhole, oneCreated, sidesNeeded, causeFits, cancellerFits, setsApart, retriesFit, startFits, waitingFits, purposeFits, liveFits, liveConfirmed, live, sends, worked, mostRows}
 use Rattle.words.specs.declared.Words.{Words}
 use Rattle.words.specs.Size.{ROW}
 use Rattle.words.specs.Codec.{wordsIn, isBlank}
 use Rattle.row.specs.Layout.{keyOf, versionOf, spareless}
 use Rattle.rows.specs.Place.{rowAt}
-use Rattle.scan.specs.Sound.{ROWS}
 
 -- ---- a version by itself
 
@@ -122,4 +121,4 @@ rowFound t i =
 -- at most 4,096 whole rows [T1], and then row after row
 unfoldable pub tableFault : List ℕ → Fault
 tableFault t =
-    cond (eqb (length t % ROW) 0) (cond (leb (length t) (ROWS * ROW)) (firstFault (rowFound t) (length t / ROW) 0) (broken 2)) (broken 1)
+    cond (eqb (length t % ROW) 0) (cond (leb (length t) (mostRows * ROW)) (firstFault (rowFound t) (length t / ROW) 0) (broken 2)) (broken 1)

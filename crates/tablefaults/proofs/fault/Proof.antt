@@ -4,8 +4,8 @@ use native.Mathlib.Omega.{arith}
 use borrow.Author.Needs.{needs}
 use borrow.Author.Tests.{eq-eqb, ne-eqb, le-leb, lt-leb}
 use lib.ListN.{length}
+use Rattle.model.specs.Sound.{mostRows}
 use Rattle.words.specs.Size.{ROW}
-use Rattle.scan.specs.Sound.{ROWS}
 use Rattle.tablefaults.specs.Clauses.{tableFault}
 use Rattle.tablefaults.proofs.fault.Statement.{statement}
 use Rattle.tablefaults.proofs.fault.Tie as tie
@@ -29,7 +29,7 @@ returns-2 : tie.Need-returns-2
 unfolding tableFault
 returns-2 c =
     let t = c .before .before .before .before .args .t .now in
-    rw (c .whole2 .ensures, eq-eqb (length t % ROW) 0 (omega (arith, c .before .before .if1 .left)), lt-leb (length t) (ROWS * ROW) (c .before .if2 .taken))
+    rw (c .whole2 .ensures, eq-eqb (length t % ROW) 0 (omega (arith, c .before .before .if1 .left)), lt-leb (length t) (mostRows * ROW) (c .before .if2 .taken))
 
 over-requires : tie.Need-over-requires
 over-requires c κs = search needs
@@ -38,7 +38,7 @@ returns-3 : tie.Need-returns-3
 unfolding tableFault
 returns-3 c =
     let t = c .before .before .before .before .args .t .now in
-    rw (c .over .ensures, eq-eqb (length t % ROW) 0 (omega (arith, c .before .before .if1 .left)), le-leb (length t) (ROWS * ROW) (c .before .if2 .left))
+    rw (c .over .ensures, eq-eqb (length t % ROW) 0 (omega (arith, c .before .before .if1 .left)), le-leb (length t) (mostRows * ROW) (c .before .if2 .left))
 
 pub fault-spec : {M : Type 1} → statement M
 fault-spec =
