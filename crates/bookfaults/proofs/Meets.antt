@@ -4,7 +4,7 @@ use mathlib.Core.Path.{_≡_, sym, ap, _∙_}
 use mathlib.Core.Bool.{Bool, true, false}
 use native.Mathlib.Omega.{arith}
 use Rattle.faults.specs.Faults.{nearest}
-use Rattle.faults.specs.Laws.{nearest-here, nearest-next}
+use Rattle.faults.proofs.Laws.{nearest-here, nearest-next}
 use Rattle.bookfaults.specs.Clauses.{meets, metBy}
 
 module _ (w : ℕ → ℕ) (x : ℕ) where

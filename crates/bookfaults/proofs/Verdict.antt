@@ -12,18 +12,20 @@ use Rattle.systems.specs.Set.{member}
 use Rattle.model.specs.Basics.{all, among}
 use Rattle.model.specs.Books.{soundMarks}
 use Rattle.model.specs.Numbers.{isCode, isProvider}
-use Rattle.octets.specs.Fields.{and-l}
+use Rattle.octets.proofs.Fields.{and-l}
 use Rattle.model.specs.declared.Marks.{Marks}
 use Rattle.faults.specs.declared.Found.{Found}
 use Rattle.faults.specs.declared.Fault.{Fault}
 use Rattle.faults.specs.Faults.{Clause, foundAt, firstBroken, broken, firstFault, orElse, isFaultless}
-use Rattle.faults.specs.Laws.{not-leb, numbered, allHold, none-broken, faultless-next, faulty-here}
+use Rattle.faults.proofs.Laws.{not-leb, numbered, allHold, none-broken, faultless-next, faulty-here}
 use Rattle.providers.specs.Providers.{fine, soundList, listed, entryOf}
-use Rattle.providers.specs.Laws.{listed-says, listed-sound}
+use Rattle.providers.proofs.Laws.{listed-says, listed-sound}
 use Rattle.books.specs.Packed.{bookBytes, rowPlaces, splitPlaces, headOf, codePlace, filterPlace, splitPlace, usedFrom, freeFrom, packedFrom, soundBytes}
 use Rattle.entries.specs.Good.{goodCode, goodFilter, goodRow}
-use Rattle.soundbooks.specs.Scan.{chain, scan, scan-is}
-use Rattle.soundbooks.specs.Sound.{rowTest, splitTest, sound-parts}
+use Rattle.soundbooks.specs.Scan.{chain, scan}
+use Rattle.soundbooks.proofs.Scanning.{scan-is}
+use Rattle.soundbooks.specs.Sound.{rowTest, splitTest}
+use Rattle.soundbooks.proofs.Soundness.{sound-parts}
 use Rattle.bookfaults.specs.Clauses.{markFound, providersFault, later, here, codeClauses, filterClauses, pairClauses, codes, filters, pairs, placeIn, lastAt, metBy, clausesIn, placeFound, listFault, bytesFault, booksFault}
 use Rattle.bookfaults.proofs.Pairs.{twoCodes, differ, clear, pairsFrom, prefix, met-clear, pairs-chain}
 

@@ -12,7 +12,7 @@ use Rattle.verdict.specs.declared.Run.{Run}
 use Rattle.verdict.specs.declared.Mail.{Mail}
 use Rattle.verdict.specs.declared.Mail.the-variants.{One, Two}
 use Rattle.tray.specs.Tray.{Small, putMessage, putAll, Told}
-use Rattle.tray.specs.Laws.{put-append}
+use Rattle.tray.proofs.Laws.{put-append}
 use Rattle.model.specs.declared.Message.{Message}
 
 -- ---- messages one by one

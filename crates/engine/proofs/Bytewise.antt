@@ -31,7 +31,7 @@ use Rattle.record.proofs.Theorems.{read-is-formed}
 use Rattle.providers.specs.Providers.{listed, entryOf}
 use Rattle.providers.specs.declared.Listed.{Listed}
 use Rattle.books.specs.Packed.{decodeBooks, soundBytes}
-use Rattle.books.specs.Given.{sound-books}
+use Rattle.books.proofs.Given.{sound-books}
 use Rattle.rows.specs.Table.{decode, encode}
 use Rattle.scan.specs.Sound.{rowsIn, itself}
 use Rattle.scan.proofs.Meant.{sound-says}

@@ -22,7 +22,7 @@ use Rattle.packing.specs.Layout.{readEvent}
 use Rattle.record.proofs.Theorems.{read-is-formed}
 use Rattle.providers.specs.declared.Listed.{Listed}
 use Rattle.books.specs.Packed.{decodeBooks}
-use Rattle.books.specs.Given.{sound-books}
+use Rattle.books.proofs.Given.{sound-books}
 use Rattle.rows.specs.Table.{decode}
 use Rattle.scan.specs.Sound.{rowsIn, SoundTable}
 use Rattle.lines.specs.Lines.{lineBy}

@@ -12,7 +12,7 @@ use Rattle.providers.specs.Providers.{listed, entryOf}
 use Rattle.checks.specs.Checks.{soundnessLent}
 use Rattle.scan.specs.declared.Soundness.the-variants.{Sound}
 use Rattle.tray.specs.Tray.{placesIn, putAll, readPlaces}
-use Rattle.tray.specs.Laws.{tray-reads}
+use Rattle.tray.proofs.Laws.{tray-reads}
 use Rattle.octets.specs.Octets.{Bytes}
 use Rattle.packing.specs.Layout.{readEvent}
 use Rattle.outcomes.specs.declared.Answer.{Answer}

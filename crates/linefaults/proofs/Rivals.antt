@@ -10,7 +10,7 @@ use lib.Dec.{eqb}
 use lib.ListN.{length}
 use Rattle.faults.specs.declared.Found.{Found}
 use Rattle.faults.specs.Faults.{foundAt, firstBroken, nearest}
-use Rattle.faults.specs.Laws.{nearest-here, nearest-next, nearest-same, nearest-none}
+use Rattle.faults.proofs.Laws.{nearest-here, nearest-next, nearest-same, nearest-none}
 use Rattle.model.specs.declared.Version.{Version}
 use Rattle.model.specs.Books.{Split, lineIn}
 use Rattle.model.specs.Sound.{live, sends, worked}

@@ -10,7 +10,7 @@ use lib.Dec.{eqb}
 use lib.ListN.{length, getD}
 use Rattle.faults.specs.declared.Found.{Found}
 use Rattle.faults.specs.Faults.{Clause, beside, foundAt, nearest, firstFault, isFaultless}
-use Rattle.faults.specs.Laws.{nearest-none, allHold, none-broken, faultless-next, faulty-here}
+use Rattle.faults.proofs.Laws.{nearest-none, allHold, none-broken, faultless-next, faulty-here}
 use Rattle.model.specs.declared.Version.{Version}
 use Rattle.model.specs.Sound.{live, sends, worked, soundLines}
 use Rattle.model.proofs.Lists.{clash, and-l, and-r, both-true}

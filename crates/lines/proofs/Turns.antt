@@ -9,7 +9,8 @@ use Rattle.model.specs.Numbers.{isCode}
 use Rattle.model.specs.Books.{Split}
 use Rattle.model.proofs.Lists.{and-l, and-r}
 use Rattle.books.specs.Packed.{splitOf}
-use Rattle.books.specs.Places.{restOf, used-none, used-more, used-end}
+use Rattle.books.specs.Places.{restOf}
+use Rattle.books.proofs.Places.{used-none, used-more, used-end}
 use Rattle.lines.specs.Pairs.{pairFits, pairsFit}
 use Rattle.model.proofs.Partners.{codes, code-below}
 

@@ -8,7 +8,7 @@ use native.Mathlib.Nat.{sub-right-comm, zero-div}
 use native.Mathlib.Omega.{arith}
 use borrow.Author.Tests.{eqb-true, ltb-true, not-false}
 use Rattle.systems.specs.Set.{member}
-use Rattle.systems.specs.Laws.{without-other}
+use Rattle.systems.proofs.Laws.{without-other}
 use Rattle.model.specs.Versions.{recast}
 use Rattle.model.specs.Retries.{used}
 use Rattle.model.specs.Closing.{open?, closed, settled}

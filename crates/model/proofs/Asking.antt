@@ -8,7 +8,7 @@ use native.Mathlib.Omega.{arith}
 use borrow.Author.Tests.{le-leb, lt-leb, leb-true, leb-false, eqb-true, eqb-false}
 use lib.Dec.{eqb, leb}
 use Rattle.systems.specs.Set.{member, maskOf, meet}
-use Rattle.systems.specs.Laws.{mask-member}
+use Rattle.systems.proofs.Laws.{mask-member}
 use Rattle.model.specs.Basics.{any}
 use Rattle.model.specs.Numbers.{codeOf}
 use Rattle.model.specs.Books.{Books, Filter, Split, partnerOf, filters}

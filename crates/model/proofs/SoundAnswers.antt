@@ -9,7 +9,7 @@ use native.Mathlib.Omega.{arith}
 use borrow.Author.Tests.{eqb-true, eqb-false, eq-eqb, ltb-true, lt-ltb, leb-true, le-leb}
 use lib.Pow.{pow-pos}
 use Rattle.systems.specs.Set.{member}
-use Rattle.systems.specs.Laws.{without-same, without-other}
+use Rattle.systems.proofs.Laws.{without-same, without-other}
 use Rattle.model.specs.Basics.{iff, implies, none, with}
 use Rattle.model.specs.Numbers.{isTime, isSet}
 use Rattle.model.specs.Retries.{used, withUsed}

@@ -9,7 +9,7 @@ use native.Mathlib.Omega.{arith}
 use borrow.Author.Tests.{eqb-true, eqb-false, eq-eqb, ltb-true, ltb-false, lt-ltb}
 use lib.Pow.{pow-pos}
 use Rattle.systems.specs.Set.{member, maskOf, meet}
-use Rattle.systems.specs.Laws.{in-le, out-fits, mask-lt, mask-member, with-other, without-same, without-other}
+use Rattle.systems.proofs.Laws.{in-le, out-fits, mask-lt, mask-member, with-other, without-same, without-other}
 use Rattle.model.specs.Basics.{every}
 use Rattle.model.specs.Numbers.{isSet}
 use Rattle.model.specs.Sound.{apart}

@@ -1,3 +1,2 @@
 pub mod Octets
-pub mod Laws
 pub mod Fields

@@ -11,8 +11,9 @@ use lib.ListN.{length, getD}
 use lib.Seq.{take-all}
 use lib.Dec.{eqb}
 use Rattle.octets.specs.Octets.{Bytes, be, digits}
-use Rattle.octets.specs.Laws.{be-lt, be-digits, digits-be, length-digits}
-use Rattle.octets.specs.Fields.{cut, join, fit, fit-at, and-l, and-r, join-lt, join-cut, cut-join}
+use Rattle.octets.proofs.Laws.{be-lt, be-digits, digits-be, length-digits}
+use Rattle.octets.specs.Fields.{cut, join, fit}
+use Rattle.octets.proofs.Fields.{fit-at, and-l, and-r, join-lt, join-cut, cut-join}
 use Rattle.model.specs.declared.Event.{Event}
 use Rattle.model.specs.declared.Reading.{Reading}
 use Rattle.model.specs.declared.Reading.the-variants.{Record, Malformed}

@@ -1,2 +1,3 @@
 pub mod Spans
 pub mod Inverse
+pub mod Worked

@@ -1,4 +1,2 @@
 pub mod Providers
 pub mod Growth
-pub mod MarksLaws
-pub mod Laws

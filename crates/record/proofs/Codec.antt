@@ -8,7 +8,7 @@ use native.Mathlib.Omega.{arith}
 use borrow.Author.Tests.{eq-eqb, ne-eqb}
 use lib.ListN.{length, drop, length-append, length-drop, drop-of-length-le}
 use Rattle.octets.specs.Octets.{be, digits, put}
-use Rattle.octets.specs.Laws.{be-add, digits-add, put-after, length-digits}
+use Rattle.octets.proofs.Laws.{be-add, digits-add, put-after, length-digits}
 use Rattle.octets.specs.Fields.{cut}
 use Rattle.model.specs.declared.Event.{Event}
 use Rattle.model.specs.declared.Reading.the-variants.{Record, Malformed}

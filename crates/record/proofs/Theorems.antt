@@ -8,8 +8,9 @@ use borrow.Author.Tests.{eq-eqb}
 use lib.ListN.{length}
 use lib.Dec.{eqb}
 use Rattle.octets.specs.Octets.{Bytes, be}
-use Rattle.octets.specs.Laws.{bytes-digits, length-digits}
-use Rattle.octets.specs.Fields.{cut, join, and-r}
+use Rattle.octets.proofs.Laws.{bytes-digits, length-digits}
+use Rattle.octets.specs.Fields.{cut, join}
+use Rattle.octets.proofs.Fields.{and-r}
 use Rattle.model.specs.declared.Event.{Event}
 use Rattle.model.specs.declared.Reading.the-variants.{Record}
 use Rattle.model.specs.Record.{wellFormed}

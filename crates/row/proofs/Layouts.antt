@@ -9,7 +9,8 @@ use native.Mathlib.Omega.{arith}
 use borrow.Author.Tests.{lt-ltb, eqb-true}
 use lib.Dec.{eqb, ltb, lit<}
 use lib.ListN.{getD}
-use Rattle.octets.specs.Fields.{cut, join, fit, join-lt, join-cut, cut-join}
+use Rattle.octets.specs.Fields.{cut, join, fit}
+use Rattle.octets.proofs.Fields.{join-lt, join-cut, cut-join}
 use Rattle.model.specs.declared.Version.{Version}
 use Rattle.words.specs.declared.Words.{Words}
 use Rattle.row.specs.Layout.{headWidths, termWidths, pairWidths, flag, marked, field, versionOf, spareless, headFields, termFields, dueFields, timeFields, wordsOf, Room}

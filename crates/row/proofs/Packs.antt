@@ -10,7 +10,8 @@ use borrow.Author.Tests.{eq-eqb, ne-eqb, eqb-true}
 use lib.Dec.{eqb}
 use lib.ListN.{length, getD}
 use Rattle.octets.specs.Octets.{Bytes}
-use Rattle.octets.specs.Fields.{join, cut-join}
+use Rattle.octets.specs.Fields.{join}
+use Rattle.octets.proofs.Fields.{cut-join}
 use Rattle.model.specs.declared.Version.{Version}
 use Rattle.model.specs.Sound.{soundVersion}
 use Rattle.model.proofs.Lists.{conj-at}

@@ -5,7 +5,7 @@ use mathlib.Core.Path.{_≡_, refl, ap, ap₂, _∙_}
 use mathlib.Core.Bool.{Bool, true, false, cond, not}
 use lib.Dec.{eqb}
 use Rattle.systems.specs.Set.{member, maskOf}
-use Rattle.systems.specs.Laws.{mask-member}
+use Rattle.systems.proofs.Laws.{mask-member}
 use Rattle.model.specs.Books.{Books, present, runs, partnerOf}
 use Rattle.model.specs.Selection.{skipped, classOf, isSelected, selects}
 use Rattle.model.specs.declared.Class.{Class}

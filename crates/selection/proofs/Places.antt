@@ -10,13 +10,14 @@ use native.Mathlib.Omega.{arith}
 use borrow.Author.Tests.{lt-ltb, eq-eqb, ne-eqb, ltb-true, eqb-true, eqb-false}
 use lib.Dec.{eqb, ltb, leb, lit<}
 use lib.ListN.{length}
-use Rattle.octets.specs.Fields.{and-l, and-r}
+use Rattle.octets.proofs.Fields.{and-l, and-r}
 use Rattle.model.specs.Basics.{among}
 use Rattle.model.specs.Books.{filtersIn, filtersAbove, soundFilters}
 use Rattle.model.specs.declared.Marks.{Marks}
 use Rattle.books.specs.Packed.{filterPlace, rowPlaces, filterOf, filtersOf, soundBytes}
-use Rattle.books.specs.Places.{restOf, used-none, used-more, used-end, used-length}
-use Rattle.books.specs.Given.{sound-filters}
+use Rattle.books.specs.Places.{restOf}
+use Rattle.books.proofs.Places.{used-none, used-more, used-end, used-length}
+use Rattle.books.proofs.Given.{sound-filters}
 use Rattle.books.proofs.Filters.{filters-by-place}
 use Rattle.selection.specs.Pass.{mostLooks}
 

@@ -10,9 +10,9 @@ use native.Mathlib.Omega.{arith}
 use borrow.Author.Tests.{ltb-true, ltb-false, eqb-true}
 use lib.Dec.{eqb, ltb}
 use lib.Pow.{pow-mono}
-use Rattle.octets.specs.Fields.{and-l, and-r}
+use Rattle.octets.proofs.Fields.{and-l, and-r}
 use Rattle.systems.specs.Set.{member, maskOf}
-use Rattle.systems.specs.Laws.{mask-lt, mask-member, ext}
+use Rattle.systems.proofs.Laws.{mask-lt, mask-member, ext}
 use Rattle.model.specs.Basics.{among}
 use Rattle.model.specs.Numbers.{isSet}
 use Rattle.model.specs.Books.{Books, present, runs, partnerOf, filters, soundMarks}
@@ -20,9 +20,9 @@ use Rattle.model.specs.Selection.{skipped, classOf, isSelected, selects}
 use Rattle.model.specs.declared.Class.the-variants.{Selected, NotPresent, NoLocal, FilterOnly, FiltersBoth}
 use Rattle.model.specs.declared.Marks.{Marks}
 use Rattle.model.proofs.SoundSets.{in-set, set-mask}
-use Rattle.providers.specs.MarksLaws.{runs-present, low}
+use Rattle.providers.proofs.MarksLaws.{runs-present, low}
 use Rattle.books.specs.Packed.{decodeBooks, soundBytes}
-use Rattle.books.specs.Given.{sound-marks}
+use Rattle.books.proofs.Given.{sound-marks}
 use Rattle.selection.specs.Pass.{smallerOf, largerOf}
 use Rattle.selection.proofs.Places.{filterNumber, placesFrom, filter-place, no-filter}
 

@@ -16,7 +16,7 @@ use Rattle.model.specs.Books.{partnerOf}
 use Rattle.model.specs.Selection.{skipped, selects}
 use Rattle.model.specs.declared.Marks.{Marks}
 use Rattle.books.specs.Packed.{filterPlace, rowPlaces, filterOf, filtersOf, decodeBooks, soundBytes}
-use Rattle.books.specs.Given.{sound-marks}
+use Rattle.books.proofs.Given.{sound-marks}
 use Rattle.selection.proofs.Places.{filterNumber, placesFrom, ToCome, come-start, come-up, come-next, come-found, come-past}
 use Rattle.selection.specs.Pass.{smallerOf, largerOf, comesBefore}
 use Rattle.selection.proofs.Selects.{smaller-le, not-run, is-skipped, is-selected, skipped-places}

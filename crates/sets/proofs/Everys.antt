@@ -8,7 +8,7 @@ use borrow.Author.Tests.{ltb-true, ltb-false, eq-eqb}
 use lib.Dec.{eqb, ltb, lit<}
 use lib.Bits.{bitAnd, and-le-l}
 use Rattle.systems.specs.Set.{member}
-use Rattle.systems.specs.Laws.{member-high, member-and, ext}
+use Rattle.systems.proofs.Laws.{member-high, member-and, ext}
 use Rattle.model.specs.declared.Retries.{Retries}
 use Rattle.model.specs.declared.Broadcast.{Broadcast}
 use Rattle.model.specs.Basics.{every}

@@ -1,3 +1,2 @@
-pub mod Halves
 pub mod Scan
 pub mod Sound

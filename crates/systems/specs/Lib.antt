@@ -1,2 +1,1 @@
 pub mod Set
-pub mod Laws

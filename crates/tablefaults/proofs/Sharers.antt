@@ -7,7 +7,7 @@ use native.Mathlib.Omega.{arith}
 use borrow.Author.Tests.{eq-eqb}
 use lib.Dec.{eqb}
 use Rattle.faults.specs.Faults.{nearest}
-use Rattle.faults.specs.Laws.{nearest-here, nearest-next, nearest-none}
+use Rattle.faults.proofs.Laws.{nearest-here, nearest-next, nearest-none}
 use Rattle.model.specs.declared.Version.{Version}
 use Rattle.tablefaults.specs.Clauses.{versionAt, mark, share, sharer}
 

@@ -10,7 +10,7 @@ use borrow.Author.Tests.{eq-eqb, ne-eqb, eqb-true, eqb-false, lt-ltb, ltb-true}
 use lib.Dec.{eqb, ltb, leb}
 use lib.ListN.{length, drop}
 use Rattle.faults.specs.Faults.{before, nearest, broken, firstFault, isFaultless}
-use Rattle.faults.specs.Laws.{not-leb, nearest-same, nearest-none, allHold, none-broken, faultless-next, faulty-here}
+use Rattle.faults.proofs.Laws.{not-leb, nearest-same, nearest-none, allHold, none-broken, faultless-next, faulty-here}
 use Rattle.model.proofs.Lists.{and-l}
 use Rattle.model.specs.declared.Broadcast.{Broadcast}
 use Rattle.model.specs.declared.Version.{Version}

@@ -1,4 +1,1 @@
 pub mod Tray
-pub mod Laws
-pub mod Downloads
-pub mod Worked

@@ -8,7 +8,7 @@ use native.Mathlib.Omega.{arith}
 use lib.ListN.{length, getD, take, drop, length-append, drop-of-length-le}
 use lib.Seq.{split-at, drop-drop, take-add, take-all, length-take-le}
 use Rattle.octets.specs.Octets.{Bytes, be, digits, put}
-use Rattle.octets.specs.Laws.{length-digits, be-digits, digits-be, be-word, put-after}
+use Rattle.octets.proofs.Laws.{length-digits, be-digits, digits-be, be-word, put-after}
 use Rattle.words.specs.declared.Words.{Words}
 use Rattle.words.specs.Size.{ROW}
 use Rattle.words.specs.Codec.{wordsIn, spelt, stored, firstOf, lastOf, bytesOf, noWords, blank}

@@ -2,7 +2,7 @@
 -- Assumes nothing.
 use borrow.Author.Needs.{needs}
 use Rattle.books.specs.Packed.{placeOf}
-use Rattle.blanks.specs.Free.{eight}
+use Rattle.blanks.proofs.FreePlaces.{eight}
 use Rattle.blanks.proofs.eight_free.Statement.{statement}
 use Rattle.blanks.proofs.eight_free.Tie as tie
 

@@ -4,7 +4,7 @@ use borrow.Author.Needs.{needs}
 use Prim.Native.Nat.{_-_}
 use mathlib.Core.Path.{_≡_, refl, sym, _∙_}
 use Rattle.books.specs.Packed.{placeOf, freeFrom}
-use Rattle.blanks.specs.Free.{free-used, free-more, free-end}
+use Rattle.blanks.proofs.FreePlaces.{free-used, free-more, free-end}
 use Rattle.blanks.proofs.few_free.Statement.{statement}
 use Rattle.blanks.proofs.few_free.Tie as tie
 

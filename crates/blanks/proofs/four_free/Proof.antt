@@ -1,7 +1,7 @@
 -- `blanks::four_free` meets its contract.
 -- Assumes nothing.
 use borrow.Author.Needs.{needs}
-use Rattle.blanks.specs.Free.{four}
+use Rattle.blanks.proofs.FreePlaces.{four}
 use Rattle.blanks.proofs.four_free.Statement.{statement}
 use Rattle.blanks.proofs.four_free.Tie as tie
 

@@ -5,7 +5,7 @@ use Prim.Native.Nat.{_-_, _≤_}
 use mathlib.Core.Path.{_≡_, refl, sym, _∙_}
 use borrow.Author.Tests.{not-true, not-false}
 use Rattle.books.specs.Packed.{placeOf, freeFrom}
-use Rattle.blanks.specs.Free.{eight-more, eight-used}
+use Rattle.blanks.proofs.FreePlaces.{eight-more, eight-used}
 use Rattle.blanks.proofs.free.Statement.{statement}
 use Rattle.blanks.proofs.free.Tie as tie
 

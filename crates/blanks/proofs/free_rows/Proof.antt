@@ -4,7 +4,7 @@ use borrow.Author.Needs.{needs}
 use mathlib.Core.Path.{sym, _∙_}
 use native.Mathlib.Omega.{arith}
 use Rattle.books.specs.Packed.{placeOf, rowPlaces}
-use Rattle.blanks.specs.Free.{free-used, free-even, free-odd}
+use Rattle.blanks.proofs.FreePlaces.{free-used, free-even, free-odd}
 use Rattle.blanks.proofs.free_rows.Statement.{statement}
 use Rattle.blanks.proofs.free_rows.Tie as tie
 

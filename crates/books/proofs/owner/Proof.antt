@@ -5,8 +5,10 @@ use Prim.Native.Nat.{_-_}
 use mathlib.Core.Path.{_≡_, refl, sym, ap, _∙_}
 use Rattle.model.specs.Books.{ownerOf}
 use Rattle.books.specs.Packed.{codePlace, rowPlaces}
-use Rattle.books.specs.Places.{restOf, used-end}
-use Rattle.books.specs.Search.{ownerBy, owner-here, owner-next}
+use Rattle.books.specs.Places.{restOf}
+use Rattle.books.proofs.Places.{used-end}
+use Rattle.books.specs.Search.{ownerBy}
+use Rattle.books.proofs.Search.{owner-here, owner-next}
 use Rattle.books.proofs.owner.Statement.{statement}
 use Rattle.books.proofs.owner.Tie as tie
 

@@ -5,8 +5,10 @@ use Prim.Native.Nat.{_-_}
 use mathlib.Core.Path.{_≡_, refl, sym, ap, _∙_}
 use Rattle.model.specs.Books.{partnerOf}
 use Rattle.books.specs.Packed.{splitPlace, splitPlaces}
-use Rattle.books.specs.Places.{restOf, used-end}
-use Rattle.books.specs.Search.{partnerBy, partner-one, partner-other, partner-next}
+use Rattle.books.specs.Places.{restOf}
+use Rattle.books.proofs.Places.{used-end}
+use Rattle.books.specs.Search.{partnerBy}
+use Rattle.books.proofs.Search.{partner-one, partner-other, partner-next}
 use Rattle.books.proofs.partner.Statement.{statement}
 use Rattle.books.proofs.partner.Tie as tie
 

@@ -2,7 +2,7 @@
 use mathlib.Core.Path.{sym, ap, _∙_}
 use mathlib.Core.Bool.{Bool, _&&_}
 use Rattle.model.proofs.Lists.{and-r}
-use Rattle.books.specs.Given.{sound-length, sound-splits}
+use Rattle.books.proofs.Given.{sound-length, sound-splits}
 use Rattle.checks.proofs.Lending.{kept-books, lent-sound, lent-unlined, lent-unkept}
 use borrow.Author.Needs.{needs}
 use Rattle.checks.proofs.with_books.Statement.{statement}

@@ -3,7 +3,7 @@
 use borrow.Author.Needs.{needs}
 use mathlib.Core.Path.{sym, _∙_}
 use borrow.Author.Tests.{not-true, not-false, eqb-true}
-use Rattle.octets.specs.Fields.{and-r}
+use Rattle.octets.proofs.Fields.{and-r}
 use Rattle.model.specs.Numbers.{tenDigits}
 use Rattle.classes.proofs.Writing.{unsound, malformed, classified}
 use Rattle.classes.proofs.write.Statement.{statement}

@@ -2,7 +2,7 @@
 -- Assumes nothing.
 use borrow.Author.Needs.{needs}
 use mathlib.Core.Path.{sym}
-use Rattle.entries.specs.Good.{far}
+use Rattle.entries.proofs.Far.{far}
 use Rattle.entries.proofs.good_filter.Statement.{statement}
 use Rattle.entries.proofs.good_filter.Tie as tie
 

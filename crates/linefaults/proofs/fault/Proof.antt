@@ -4,7 +4,7 @@ use mathlib.Core.Path.{_≡_, sym, ap, _∙_}
 use native.Mathlib.Omega.{arith}
 use borrow.Author.Needs.{needs}
 use Rattle.faults.specs.Faults.{firstFault}
-use Rattle.faults.specs.Laws.{fault-here, fault-next, fault-end}
+use Rattle.faults.proofs.Laws.{fault-here, fault-next, fault-end}
 use Rattle.model.specs.Books.{lineIn}
 use Rattle.rows.specs.Table.{decode}
 use Rattle.books.specs.Packed.{splitsOf}

@@ -4,7 +4,7 @@ use borrow.Author.Needs.{needs}
 use native.Mathlib.Omega.{arith}
 use native.Mathlib.Nat.{add-zero}
 use lib.ListN.{length-set}
-use Rattle.octets.specs.Laws.{puts, puts-put}
+use Rattle.octets.proofs.Laws.{puts, puts-put}
 use Rattle.octets.proofs.put_u64.Statement.{statement}
 use Rattle.octets.proofs.put_u64.Tie as tie
 

@@ -2,7 +2,7 @@
 -- Assumes nothing.
 use mathlib.Core.Path.{sym, _∙_}
 use borrow.Author.Needs.{needs}
-use Rattle.providers.specs.Laws.{in-room}
+use Rattle.providers.proofs.Laws.{in-room}
 use Rattle.providers.proofs.grown.Statement.{statement}
 use Rattle.providers.proofs.grown.Tie as tie
 

@@ -8,7 +8,7 @@ use borrow.Author.Needs.{needs}
 use lib.ListN.{length, length-map}
 use Rattle.providers.specs.Providers.{entryOf}
 use Rattle.providers.specs.Growth.{listedTo}
-use Rattle.providers.specs.Laws.{listed-none, listed-all, bytes-more}
+use Rattle.providers.proofs.Laws.{listed-none, listed-all, bytes-more}
 use Rattle.providers.proofs.marks_of_bytes.Statement.{statement}
 use Rattle.providers.proofs.marks_of_bytes.Tie as tie
 

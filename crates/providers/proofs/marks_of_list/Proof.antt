@@ -55,7 +55,7 @@ use Rattle.model.proofs.Marks.Laws as M′
 use Rattle.providers.specs.declared.Listed.{Listed}
 use Rattle.providers.specs.Providers.{absent, nobody, listed}
 use Rattle.providers.specs.Growth.{grownBy, listedTo}
-use Rattle.providers.specs.Laws.{listed-none, listed-more, listed-all}
+use Rattle.providers.proofs.Laws.{listed-none, listed-more, listed-all}
 use Rattle.providers.proofs.Listed as K
 use Rattle.providers.proofs.Listed.Laws as K′
 use Rattle.providers.proofs.grown as grown

@@ -1,7 +1,7 @@
 -- `providers::sound` meets its contract.
 -- Assumes nothing.
 use borrow.Author.Needs.{needs}
-use Rattle.providers.specs.MarksLaws.{sound-bits}
+use Rattle.providers.proofs.MarksLaws.{sound-bits}
 use Rattle.providers.proofs.sound.Statement.{statement}
 use Rattle.providers.proofs.sound.Tie as tie
 

@@ -12,7 +12,7 @@ use Rattle.systems.specs.Set.{maskOf}
 use Rattle.model.specs.Basics.{among}
 use Rattle.model.specs.Selection.{selects}
 use Rattle.books.specs.Packed.{rowPlaces, decodeBooks}
-use Rattle.books.specs.Given.{sound-length}
+use Rattle.books.proofs.Given.{sound-length}
 use Rattle.selection.proofs.Places.{placesFrom, come-looks, come-end}
 use Rattle.selection.specs.Pass.{largerOf}
 use Rattle.selection.proofs.Selects.{smaller-le, all-run, mask-room}

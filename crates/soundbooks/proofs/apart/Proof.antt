@@ -4,9 +4,11 @@ use borrow.Author.Needs.{needs}
 use Prim.Native.Nat.{_-_}
 use mathlib.Core.Path.{_≡_, refl, sym, _∙_}
 use Rattle.books.specs.Packed.{splitsAt, splitPlace, splitPlaces}
-use Rattle.books.specs.Places.{restOf, used-none, used-end}
-use Rattle.soundbooks.specs.Halves.{halves, halves-free, halves-used, halves-code}
-use Rattle.soundbooks.specs.Sound.{apartFrom, apart-end, apart-one, apart-other, apart-next}
+use Rattle.books.specs.Places.{restOf}
+use Rattle.books.proofs.Places.{used-none, used-end}
+use Rattle.soundbooks.proofs.Halves.{halves, halves-free, halves-used, halves-code}
+use Rattle.soundbooks.specs.Sound.{apartFrom}
+use Rattle.soundbooks.proofs.Soundness.{apart-end, apart-one, apart-other, apart-next}
 use Rattle.soundbooks.proofs.apart.Statement.{statement}
 use Rattle.soundbooks.proofs.apart.Tie as tie
 

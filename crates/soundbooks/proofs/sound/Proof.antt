@@ -3,7 +3,7 @@
 use borrow.Author.Needs.{needs}
 use mathlib.Core.Path.{sym, _∙_}
 use borrow.Author.Tests.{eq-eqb, ne-eqb, not-true, not-false}
-use Rattle.soundbooks.specs.Sound.{sound-parts}
+use Rattle.soundbooks.proofs.Soundness.{sound-parts}
 use Rattle.soundbooks.proofs.sound.Statement.{statement}
 use Rattle.soundbooks.proofs.sound.Tie as tie
 

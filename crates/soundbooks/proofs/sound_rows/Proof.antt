@@ -7,7 +7,8 @@ use native.Mathlib.Omega.{arith}
 use borrow.Author.Tests.{not-true, not-false}
 use Rattle.octets.specs.Octets.{be}
 use Rattle.books.specs.Packed.{placeOf, rowPlaces}
-use Rattle.soundbooks.specs.Scan.{scan, scan-free, scan-bad, scan-next, scan-end}
+use Rattle.soundbooks.specs.Scan.{scan}
+use Rattle.soundbooks.proofs.Scanning.{scan-free, scan-bad, scan-next, scan-end}
 use Rattle.soundbooks.specs.Sound.{rowTest}
 use Rattle.soundbooks.proofs.sound_rows.Statement.{statement}
 use Rattle.soundbooks.proofs.sound_rows.Tie as tie

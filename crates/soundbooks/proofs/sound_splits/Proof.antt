@@ -5,8 +5,10 @@ use Prim.Native.Nat.{_-_}
 use mathlib.Core.Path.{_≡_, refl, sym, _∙_}
 use borrow.Author.Tests.{not-true, not-false}
 use Rattle.books.specs.Packed.{splitPlace, splitPlaces}
-use Rattle.soundbooks.specs.Scan.{scan, scan-free, scan-bad, scan-end}
-use Rattle.soundbooks.specs.Sound.{splitTest, split-next}
+use Rattle.soundbooks.specs.Scan.{scan}
+use Rattle.soundbooks.proofs.Scanning.{scan-free, scan-bad, scan-end}
+use Rattle.soundbooks.specs.Sound.{splitTest}
+use Rattle.soundbooks.proofs.Soundness.{split-next}
 use Rattle.soundbooks.proofs.sound_splits.Statement.{statement}
 use Rattle.soundbooks.proofs.sound_splits.Tie as tie
 

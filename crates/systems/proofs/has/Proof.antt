@@ -2,7 +2,7 @@ use borrow.Author.Needs.{needs}
 use mathlib.Core.Path.{refl, sym}
 use native.Mathlib.Omega.{arith}
 use Rattle.systems.specs.Set.{member}
-use Rattle.systems.specs.Laws.{member-high}
+use Rattle.systems.proofs.Laws.{member-high}
 use Rattle.systems.proofs.has.Statement.{statement}
 use Rattle.systems.proofs.has.Tie as tie
 

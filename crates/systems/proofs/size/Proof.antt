@@ -1,4 +1,4 @@
-use Rattle.systems.specs.Laws.{count-ones}
+use Rattle.systems.proofs.Laws.{count-ones}
 use Rattle.systems.proofs.size.Statement.{statement}
 use Rattle.systems.proofs.size.Tie as tie
 

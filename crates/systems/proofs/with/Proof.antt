@@ -1,5 +1,5 @@
 use borrow.Author.Needs.{needs}
-use Rattle.systems.specs.Laws.{out-fits}
+use Rattle.systems.proofs.Laws.{out-fits}
 use Rattle.systems.proofs.with.Statement.{statement}
 use Rattle.systems.proofs.with.Tie as tie
 

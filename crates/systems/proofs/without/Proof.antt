@@ -1,5 +1,5 @@
 use borrow.Author.Needs.{needs}
-use Rattle.systems.specs.Laws.{in-le}
+use Rattle.systems.proofs.Laws.{in-le}
 use Rattle.systems.proofs.without.Statement.{statement}
 use Rattle.systems.proofs.without.Tie as tie
 

@@ -6,7 +6,7 @@ use borrow.Author.Needs.{needs}
 use lib.ListN.{length}
 use Rattle.words.specs.Size.{ROW}
 use Rattle.faults.specs.Faults.{firstFault}
-use Rattle.faults.specs.Laws.{fault-here, fault-next, fault-end}
+use Rattle.faults.proofs.Laws.{fault-here, fault-next, fault-end}
 use Rattle.tablefaults.specs.Clauses.{rowFound}
 use Rattle.tablefaults.proofs.over.Statement.{statement}
 use Rattle.tablefaults.proofs.over.Tie as tie

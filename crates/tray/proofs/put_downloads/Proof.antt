@@ -10,8 +10,8 @@ use lib.ListN.{length}
 use Rattle.systems.specs.Set.{count}
 use Rattle.verdict.specs.Verdict.{toLocals}
 use Rattle.tray.specs.Tray.{putAll}
-use Rattle.tray.specs.Laws.{put-length}
-use Rattle.tray.specs.Downloads.{above, members-above, count-out, count-in, length-locals, room, small-local, put-step, skip-step, put-end}
+use Rattle.tray.proofs.Laws.{put-length}
+use Rattle.tray.proofs.Downloads.{above, members-above, count-out, count-in, length-locals, room, small-local, put-step, skip-step, put-end}
 use Rattle.tray.proofs.put_downloads.Statement.{statement}
 use Rattle.tray.proofs.put_downloads.Tie as tie
 

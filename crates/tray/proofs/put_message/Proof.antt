@@ -1,7 +1,7 @@
 -- `tray::put_message` meets its contract: three words, put one after the other.
 -- Assumes nothing.
 use borrow.Author.Needs.{needs}
-use Rattle.tray.specs.Laws.{message-put}
+use Rattle.tray.proofs.Laws.{message-put}
 use Rattle.tray.proofs.put_message.Statement.{statement}
 use Rattle.tray.proofs.put_message.Tie as tie
 

@@ -1,6 +1,6 @@
 -- `beyond` meets its contract: s is the start. Assumes nothing.
 use mathlib.Core.Path.{sym, _∙_}
-use Rattle.books.specs.Given.{sound-length, sound-splits}
+use Rattle.books.proofs.Given.{sound-length, sound-splits}
 use Rattle.unsound.proofs.Theorems.{books-fault, no-fault, line-fault, books-kept}
 use borrow.Author.Needs.{needs}
 use Rattle.unsound.proofs.beyond.Statement.{statement}

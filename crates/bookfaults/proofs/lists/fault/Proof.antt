@@ -4,7 +4,7 @@ use mathlib.Core.Path.{_≡_, sym, ap, _∙_}
 use native.Mathlib.Omega.{arith}
 use borrow.Author.Needs.{needs}
 use Rattle.faults.specs.Faults.{firstFault}
-use Rattle.faults.specs.Laws.{fault-here, fault-next, fault-end}
+use Rattle.faults.proofs.Laws.{fault-here, fault-next, fault-end}
 use Rattle.bookfaults.specs.Clauses.{placeIn, placeFound, listFault, placesOf}
 use Rattle.bookfaults.proofs.lists.fault.Statement.{statement}
 use Rattle.bookfaults.proofs.lists.fault.Tie as tie

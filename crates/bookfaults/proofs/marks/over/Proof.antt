@@ -5,7 +5,7 @@ use native.Mathlib.Omega.{arith}
 use borrow.Author.Needs.{needs}
 use lib.ListN.{length}
 use Rattle.faults.specs.Faults.{firstFault}
-use Rattle.faults.specs.Laws.{fault-here, fault-next, fault-end}
+use Rattle.faults.proofs.Laws.{fault-here, fault-next, fault-end}
 use Rattle.bookfaults.specs.Clauses.{markFound}
 use Rattle.bookfaults.proofs.marks.over.Statement.{statement}
 use Rattle.bookfaults.proofs.marks.over.Tie as tie

@@ -1,6 +1,6 @@
 -- `engine::event::on_event` meets its contract: s is the start, f the survey, k what the books say, d the verdict.
 -- Assumes nothing.
-use Rattle.books.specs.Given.{sound-length, sound-splits}
+use Rattle.books.proofs.Given.{sound-length, sound-splits}
 use Rattle.engine.proofs.Deciding.{tn-small, decide-asks, may-apply, may-deliver, did}
 use borrow.Author.Needs.{needs}
 use Rattle.engine.proofs.event.on_event.Statement.{statement}

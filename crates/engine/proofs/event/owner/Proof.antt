@@ -1,7 +1,7 @@
 use mathlib.Core.Path.{sym, ap, _∙_}
 use Rattle.model.specs.Books.{ownerOf}
 use Rattle.model.proofs.Lists.{clash}
-use Rattle.books.specs.Given.{sound-length}
+use Rattle.books.proofs.Given.{sound-length}
 use borrow.Author.Needs.{needs}
 use Rattle.engine.proofs.event.owner.Statement.{statement}
 use Rattle.engine.proofs.event.owner.Tie as tie

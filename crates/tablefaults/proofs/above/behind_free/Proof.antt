@@ -3,7 +3,7 @@ use mathlib.Core.Path.{ap, _∙_}
 use borrow.Author.Needs.{needs}
 use Rattle.words.specs.Codec.{isBlank}
 use Rattle.tablefaults.specs.Clauses.{freeAt}
-use Rattle.faults.specs.Laws.{before-none, before-is}
+use Rattle.faults.proofs.Laws.{before-none, before-is}
 use Rattle.tablefaults.proofs.above.behind_free.Statement.{statement}
 use Rattle.tablefaults.proofs.above.behind_free.Tie as tie
 

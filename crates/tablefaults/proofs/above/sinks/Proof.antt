@@ -7,7 +7,7 @@ use Rattle.model.specs.declared.Version.{Version}
 use Rattle.row.specs.Layout.{keyOf, unpack}
 use Rattle.rows.specs.Place.{rowAt}
 use Rattle.words.specs.Codec.{wordsIn}
-use Rattle.faults.specs.Laws.{before-none, before-is}
+use Rattle.faults.proofs.Laws.{before-none, before-is}
 use Rattle.scan.proofs.Admits.{tn-fits}
 use Rattle.tablefaults.specs.Clauses.{sinks}
 use Rattle.tablefaults.proofs.above.sinks.Statement.{statement}

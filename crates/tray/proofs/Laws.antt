@@ -11,8 +11,9 @@ use lib.Dec.{eqb, ltb, lit<}
 use lib.ListN.{length, take, drop, length-append, length-drop, take-append-drop}
 use lib.Seq.{length-take-le, drop-drop, take-at, take-all, drop-append-add}
 use Rattle.octets.specs.Octets.{Bytes, be, digits, put}
-use Rattle.octets.specs.Laws.{put-after, length-digits, be-digits, digits-be, be-word}
-use Rattle.octets.specs.Fields.{join, fit, cut-join, join-cut, join-lt}
+use Rattle.octets.proofs.Laws.{put-after, length-digits, be-digits, digits-be, be-word}
+use Rattle.octets.specs.Fields.{join, fit}
+use Rattle.octets.proofs.Fields.{cut-join, join-cut, join-lt}
 use Rattle.model.specs.Basics.{All, none, with}
 use Rattle.model.specs.declared.Message.{Message}
 use Rattle.tray.specs.Tray.{headWidths, tailWidths, headFields, tailFields, headOf, tailOf, Small, messageWith, messageOf, messageBytes, messageFrom, readMessage, Fits, placesIn, putMessage, putAll, allBytes, trayAfter, readPlaces}

@@ -8,8 +8,8 @@ use native.Mathlib.Omega.{arith}
 use borrow.Author.Tests.{eq-eqb, eqb-true}
 use lib.Dec.{eqb}
 use Rattle.octets.specs.Octets.{Bytes, be}
-use Rattle.octets.specs.Fields.{and-l, and-r}
-use Rattle.octets.specs.Laws.{be-lt, be-add}
+use Rattle.octets.proofs.Fields.{and-l, and-r}
+use Rattle.octets.proofs.Laws.{be-lt, be-add}
 use Rattle.books.specs.Packed.{placeOf}
 
 pub record Halves (bs : List ℕ) (at i a b : ℕ) : Type 0 where

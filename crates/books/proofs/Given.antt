@@ -7,7 +7,7 @@ use mathlib.Core.List.{List}
 use borrow.Author.Tests.{eqb-true}
 use lib.Dec.{eqb}
 use lib.ListN.{length}
-use Rattle.octets.specs.Fields.{and-l, and-r}
+use Rattle.octets.proofs.Fields.{and-l, and-r}
 use Rattle.model.specs.Books.{soundMarks, soundCodes, soundFilters, soundSplits, soundBooks}
 use Rattle.model.specs.declared.Marks.{Marks}
 use Rattle.books.specs.Packed.{bookBytes, rowPlaces, splitPlaces, headOf, codePlace, filterPlace, splitPlace, codesOf, filtersOf, splitsOf, packedFrom, decodeBooks, soundBytes}

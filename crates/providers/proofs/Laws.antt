@@ -13,9 +13,9 @@ use lib.Bits.{bitOr, or-shifted-r}
 use lib.Dec.{ltb, leb}
 use lib.ListN.{length, getD, take, List·getD-map, List·getD-eq-default}
 use lib.Seq.{take-suc, take-length}
-use Rattle.octets.specs.Fields.{and-l, and-r}
+use Rattle.octets.proofs.Fields.{and-l, and-r}
 use Rattle.systems.specs.Set.{member, maskOf}
-use Rattle.systems.specs.Laws.{mask-lt, mask-member}
+use Rattle.systems.proofs.Laws.{mask-lt, mask-member}
 use Rattle.model.specs.Basics.{all, every, implies}
 use Rattle.model.specs.Books.{soundMarks}
 use Rattle.model.specs.declared.Provider.{Provider}

@@ -8,9 +8,9 @@ use native.Mathlib.Omega.{arith}
 use borrow.Author.Tests.{lt-ltb, eq-eqb, ne-eqb, eqb-true}
 use lib.Bits.{bitAnd, and-le-l}
 use lib.Dec.{eqb}
-use Rattle.octets.specs.Fields.{and-r}
+use Rattle.octets.proofs.Fields.{and-r}
 use Rattle.systems.specs.Set.{member}
-use Rattle.systems.specs.Laws.{member-and, ext}
+use Rattle.systems.proofs.Laws.{member-and, ext}
 use Rattle.model.specs.Basics.{every, implies}
 use Rattle.model.specs.Numbers.{isSet}
 use Rattle.model.specs.Books.{soundMarks}

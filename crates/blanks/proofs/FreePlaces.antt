@@ -9,7 +9,7 @@ use native.Mathlib.Omega.{arith}
 use borrow.Author.Tests.{eq-eqb, ne-eqb, eqb-true, eqb-false}
 use lib.Dec.{eqb}
 use Rattle.octets.specs.Octets.{be}
-use Rattle.octets.specs.Laws.{be-add}
+use Rattle.octets.proofs.Laws.{be-add}
 use Rattle.books.specs.Packed.{placeOf, freeFrom}
 
 -- ---- one place
