@@ -95,7 +95,7 @@ module _ (m : Marks) (b : List ℕ) (most : ℕ) (t : List ℕ) (n : ℕ) (e : E
 
 -- ---- rows that sit and fit may be changed
 
-row-small : (w : Version) → Row w → row.Small w
+row-small : (w : Version) → Row w → row.InBits w
 row-small w r = sound-room w (of-row w r) .small
 
 over-held : (t : List Version) (n i : ℕ) (w : Version) → length t ≡ n → Holds t i (w .id) → Row w → Over t n i w

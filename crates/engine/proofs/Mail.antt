@@ -6,7 +6,6 @@ use mathlib.Core.Bool.{Bool, true, false}
 use mathlib.Core.List.{List}
 use Rattle.model.specs.Basics.{All, none}
 use Rattle.model.specs.Given.{Result, refuse}
-use Rattle.model.specs.Changes.{marks}
 use Rattle.model.proofs.Lists.{clash}
 use Rattle.octets.specs.Octets.{Bytes}
 use Rattle.packing.specs.Layout.{readEvent}

@@ -2,7 +2,7 @@
 ghost use mathlib.Core.Path.{_≡_};
 ghost use mathlib.Core.Bool.{true};
 ghost use Prim.Native.Nat.{_<_, _≤_};
-ghost use Rattle.model.specs.Standing.{gridRule, placeOf, isGridKind};
+ghost use Rattle.model.specs.Standing.{gridRule, gridPlace, isGridKind};
 
 // Entry (status * 11 + place of the kind) * 3 + standing.
 const GRID: [u8; 297] = [
@@ -308,7 +308,7 @@ const GRID: [u8; 297] = [
 // The place of a kind among the eleven: 3 to 10, then 13 to 15.
 fn place_of(kind: u8) -> usize
     requires { ⌜ isGridKind kind ≡ true ⌝ }
-    ensures { λ r. ⌜ (r ≡ placeOf kind) × (r < 11) ⌝ }
+    ensures { λ r. ⌜ (r ≡ gridPlace kind) × (r < 11) ⌝ }
 {
     if kind < 11 {
         (kind - 3) as usize

@@ -22,7 +22,7 @@ use Rattle.table.proofs.Finds.{lower-up, lower-here}
 use Rattle.table.proofs.Numbered.{place-up}
 use Rattle.table.proofs.Sought.{place-le}
 use Rattle.lines.specs.declared.Held.{Held}
-use Rattle.lines.specs.Pairs.{named, heldOf, meet, nameUnder, lacks, noneOf, spares, fits, under, noneUnder, pairFits}
+use Rattle.lines.specs.Pairs.{hasName, heldOf, meet, nameUnder, lacks, noneOf, spares, fits, under, noneUnder, pairFits}
 use Rattle.lines.proofs.Walks.{place-at, all-every, before-place, walk-out, walk-fails, walk-on, walk-past}
 use Rattle.lines.proofs.Passes.{Listed, number-at}
 
@@ -55,7 +55,7 @@ pub fits-alone : (c : ℕ) (vs : List Version) (w : Version) → noneOf (underCo
 unfolding noneOf fits lacks spares
 fits-alone c vs w h =
     both-true (lacks (nameUnder c w) vs) (spares (underCode c (w .id .tn .0)) (heldOf w) vs)
-    (all-from (λ (v : Version). not (eqb (v .id .tn .0) (underCode c (w .id .tn .0)))) (λ (v : Version). not (named (nameUnder c w) v)) vs h
+    (all-from (λ (v : Version). not (eqb (v .id .tn .0) (underCode c (w .id .tn .0)))) (λ (v : Version). not (hasName (nameUnder c w) v)) vs h
     (λ v e. ap (λ (b : Bool). not (b && eqb (v .id .number) (w .id .number))) (not-true (eqb (v .id .tn .0) (underCode c (w .id .tn .0))) e)))
     (all-from (λ (v : Version). not (eqb (v .id .tn .0) (underCode c (w .id .tn .0))))
     (λ (v : Version). not (eqb (v .id .tn .0) (underCode c (w .id .tn .0)) && meet (heldOf v) (heldOf w))) vs h

@@ -19,12 +19,12 @@ use Rattle.table.specs.Find.{keyFor, placeIn}
 use Rattle.table.specs.Survey.{versionAt}
 use Rattle.table.proofs.Sought.{sound-good}
 use Rattle.lines.specs.declared.Held.{Held}
-use Rattle.lines.specs.Pairs.{heldOf, meet, bare, named, lacks, noneOf, spares, under, noneUnder}
+use Rattle.lines.specs.Pairs.{heldOf, meet, bare, hasName, lacks, noneOf, spares, under, noneUnder}
 use Rattle.lines.proofs.Walks.{place-at, all-every, before-place, walk-out, walk-fails, walk-on, walk-past}
 
 -- ---- a name
 
-pub named-is : (k : Id) (v : Version) → named k v ≡ true → v .id ≡ k
+pub named-is : (k : Id) (v : Version) → hasName k v ≡ true → v .id ≡ k
 named-is k v e =
     let a = and-l (eqb (v .id .tn .0) (k .tn .0)) (eqb (v .id .number) (k .number)) e in
     let b = and-r (eqb (v .id .tn .0) (k .tn .0)) (eqb (v .id .number) (k .number)) e in
@@ -64,23 +64,23 @@ module _ (q : Version → Bool) (lo hi : ℕ) (low : (v : Version) → keyFor v 
 
 -- a name
 module _ (k : Id) (b : k .number < 65536) (vs : List Version) (i : ℕ) (e : i ≡ placeIn (keyOf k) vs) where
-  below : (v : Version) → keyFor v < keyOf k → named k v ≡ true → ⊥
+  below : (v : Version) → keyFor v < keyOf k → hasName k v ≡ true → ⊥
   below v l n = let z : keyFor v ≡ keyOf k = ap keyOf (named-is k v n) in omega arith
 
-  above : (v : Version) → v .id .number < 65536 → keyOf k + 1 ≤ keyFor v → named k v ≡ true → ⊥
+  above : (v : Version) → v .id .number < 65536 → keyOf k + 1 ≤ keyFor v → hasName k v ≡ true → ⊥
   above v m l n = let z : keyFor v ≡ keyOf k = ap keyOf (named-is k v n) in omega arith
 
   pub absent-out : length vs ≤ i → lacks k vs ≡ true
   unfolding lacks
-  absent-out h = none-left (named k) (keyOf k) (keyOf k + 1) below above vs i e h
+  absent-out h = none-left (hasName k) (keyOf k) (keyOf k + 1) below above vs i e h
 
   pub absent-at : Listed vs → i < length vs → (x : ℕ) → x ≡ keyFor (versionAt vs i) → not (eqb x (keyOf k)) ≡ lacks k vs
   unfolding lacks
   absent-at g h x q =
-      first-decides (named k) (keyOf k) (keyOf k + 1) below above vs i e g h (eqb x (keyOf k)) (go (eqb x (keyOf k)) refl (named k (versionAt vs i)) refl)
+      first-decides (hasName k) (keyOf k) (keyOf k + 1) below above vs i e g h (eqb x (keyOf k)) (go (eqb x (keyOf k)) refl (hasName k (versionAt vs i)) refl)
       (λ z l m. let n : x ≡ keyOf k → ⊥ = eqb-false _ _ z in omega arith)
     where
-      go : (s : Bool) → eqb x (keyOf k) ≡ s → (r : Bool) → named k (versionAt vs i) ≡ r → s ≡ r
+      go : (s : Bool) → eqb x (keyOf k) ≡ s → (r : Bool) → hasName k (versionAt vs i) ≡ r → s ≡ r
       go true z r y =
           let same : x ≡ keyOf k = eqb-true _ _ z in
           let m : versionAt vs i .id .number < 65536 = number-at vs i g h in

@@ -23,7 +23,7 @@ use Rattle.table.specs.Survey.{versionAt}
 use Rattle.table.proofs.Changed.{rises-at}
 use Rattle.lines.proofs.Passes.{named-is}
 use Rattle.model.specs.Sound.{soundLines}
-use Rattle.lines.specs.Pairs.{heldOf, meet, nameUnder, named, lacks, spares, fits, under, pairFits, pairsFit}
+use Rattle.lines.specs.Pairs.{heldOf, meet, nameUnder, hasName, lacks, spares, fits, under, pairFits, pairsFit}
 use Rattle.model.proofs.Partners.{sound-once, sound-codes, Paired, paired-line, same-line, pairs-partners, partners-pairs}
 use Rattle.lines.proofs.Twos.{all-at, at-all, parted, Clear, clear-back, AllClear, lines-clear, clear-lines}
 
@@ -90,9 +90,9 @@ module _ (c d : ℕ) (t : List Version) where
           subst (λ (b : Bool). implies b (fits c t (versionAt t j)) ≡ true) (eq-eqb _ _ u)
           (all-at (λ (x : Version). implies (under d x) (fits c t x)) t e j hj)
 
-      unnamed : named (nameUnder c (versionAt t j)) (versionAt t i) ≡ false
+      unnamed : hasName (nameUnder c (versionAt t j)) (versionAt t i) ≡ false
       unnamed =
-          not-true _ (all-at (λ (x : Version). not (named (nameUnder c (versionAt t j)) x)) t
+          not-true _ (all-at (λ (x : Version). not (hasName (nameUnder c (versionAt t j)) x)) t
           (and-l (lacks (nameUnder c (versionAt t j)) t) (spares (underCode c (versionAt t j .id .tn .0)) (heldOf (versionAt t j)) t) fit) i hi)
 
       other : versionAt t i .id .number ≡ versionAt t j .id .number → ⊥
@@ -113,7 +113,7 @@ module _ (c d : ℕ) (t : List Version) where
   clear-pair f = at-all (λ (x : Version). implies (under d x) (fits c t x)) t (λ j h. go j h (under d (versionAt t j)) refl)
     where
       nameless : (i j : ℕ) → i < length t → j < length t → versionAt t j .id .tn .0 / 10000 ≡ d → (b : Bool)
-          → named (nameUnder c (versionAt t j)) (versionAt t i) ≡ b → not b ≡ true
+          → hasName (nameUnder c (versionAt t j)) (versionAt t i) ≡ b → not b ≡ true
       nameless i j hi hj u true e =
           let k : versionAt t i .id ≡ nameUnder c (versionAt t j) = named-is (nameUnder c (versionAt t j)) (versionAt t i) e in
           absurd (f i j hi hj u (ap (λ (x : Id). x .tn .0) k) .number (ap (λ (x : Id). x .number) k))
@@ -127,7 +127,7 @@ module _ (c d : ℕ) (t : List Version) where
       go : (j : ℕ) → j < length t → (b : Bool) → under d (versionAt t j) ≡ b → implies b (fits c t (versionAt t j)) ≡ true
       go j hj true e =
           both-true (lacks (nameUnder c (versionAt t j)) t) (spares (underCode c (versionAt t j .id .tn .0)) (heldOf (versionAt t j)) t)
-          (at-all (λ (x : Version). not (named (nameUnder c (versionAt t j)) x)) t (λ i hi. nameless i j hi hj (eqb-true _ _ e) _ refl))
+          (at-all (λ (x : Version). not (hasName (nameUnder c (versionAt t j)) x)) t (λ i hi. nameless i j hi hj (eqb-true _ _ e) _ refl))
           (at-all (λ (x : Version). not (eqb (x .id .tn .0) (underCode c (versionAt t j .id .tn .0)) && meet (heldOf x) (heldOf (versionAt t j)))) t
           (λ i hi. spare i j hi hj (eqb-true _ _ e) _ refl))
       go j hj false e = refl

@@ -41,12 +41,12 @@ abbrev pub nameUnder : ℕ → Version → Id
 nameUnder c v = record { tn = record { 0 = underCode c (v .id .tn .0) }; number = v .id .number }
 
 -- the version has that name
-abbrev pub named : Id → Version → Bool
-named k v = eqb (v .id .tn .0) (k .tn .0) && eqb (v .id .number) (k .number)
+abbrev pub hasName : Id → Version → Bool
+hasName k v = eqb (v .id .tn .0) (k .tn .0) && eqb (v .id .number) (k .number)
 
 -- no version has that name
 unfoldable pub lacks : Id → List Version → Bool
-lacks k t = all (λ (v : Version). not (named k v)) t
+lacks k t = all (λ (v : Version). not (hasName k v)) t
 
 -- no version is of that number
 unfoldable pub noneOf : ℕ → List Version → Bool

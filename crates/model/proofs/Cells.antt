@@ -8,7 +8,7 @@ use native.Mathlib.Omega.{arith}
 use borrow.Author.Tests.{lt-ltb, le-ltb, leb-true, lt-leb, ne-eqb}
 use lib.Dec.{eqb, eqb→eq, leb}
 use lib.ListN.{length, getD}
-use Rattle.model.specs.Standing.{gridRule, isGridKind, placeOf, kindAt, statusFor}
+use Rattle.model.specs.Standing.{gridRule, isGridKind, gridPlace, kindAt, statusFor}
 use Rattle.model.specs.Basics.{among}
 use Rattle.model.proofs.Lists.{clash}
 use Rattle.model.proofs.Entries.{at}
@@ -52,18 +52,18 @@ by-place s j t hs hj ht =
 -- ---- the kinds and their places
 
 -- 3 to 10
-low-kind : (k : ℕ) → 3 ≤ k → k ≤ 10 → (placeOf k < 11) × (kindAt (placeOf k) ≡ k)
+low-kind : (k : ℕ) → 3 ≤ k → k ≤ 10 → (gridPlace k < 11) × (kindAt (gridPlace k) ≡ k)
 low-kind k a b = rw (lt-ltb k 11 (omega arith)) (omega arith, rw (lt-ltb (k - 3) 8 (omega arith)) (omega arith))
 
 -- 13 to 15
-high-kind : (k : ℕ) → 13 ≤ k → k ≤ 15 → (placeOf k < 11) × (kindAt (placeOf k) ≡ k)
+high-kind : (k : ℕ) → 13 ≤ k → k ≤ 15 → (gridPlace k < 11) × (kindAt (gridPlace k) ≡ k)
 high-kind k a b = rw (le-ltb k 11 (omega arith)) (omega arith, rw (le-ltb (k - 5) 8 (omega arith)) (omega arith))
 
-pub grid-kind : (k : ℕ) → isGridKind k ≡ true → (placeOf k < 11) × (kindAt (placeOf k) ≡ k)
+pub grid-kind : (k : ℕ) → isGridKind k ≡ true → (gridPlace k < 11) × (kindAt (gridPlace k) ≡ k)
 grid-kind k h = go (leb 3 k) refl (leb k 10) refl (leb 13 k) refl (leb k 15) refl h
   where
     go : (a : Bool) → leb 3 k ≡ a → (b : Bool) → leb k 10 ≡ b → (c : Bool) → leb 13 k ≡ c → (d : Bool) → leb k 15 ≡ d → ((a && b) || (c && d)) ≡ true
-        → (placeOf k < 11) × (kindAt (placeOf k) ≡ k)
+        → (gridPlace k < 11) × (kindAt (gridPlace k) ≡ k)
     go true p true q c r d s e = low-kind k (leb-true 3 k p) (leb-true k 10 q)
     go true p false q true r true s e = high-kind k (leb-true 13 k r) (leb-true k 15 s)
     go true p false q true r false s e = clash e

@@ -11,7 +11,7 @@ use Rattle.model.specs.Record.{isCreate, isModify, isAnswer, isBroadcast
 use Rattle.model.specs.Outcomes.{isDone}
 use Rattle.model.specs.Given.{Given, Result, refuse, accept, found, rest, workedOne}
 use Rattle.model.specs.Creates.{creates, createOn}
-use Rattle.model.specs.Changes.{modifies, turns, cancelled, acknowledged, resolved, marks, windowMarks, windowTurned, windowRuns}
+use Rattle.model.specs.Changes.{modifies, turns, cancelled, acknowledged, resolved, awaitsOld, windowMarks, windowTurned, windowRuns}
 use Rattle.model.specs.Broadcast.{broadcasts}
 use Rattle.model.specs.Answers.{answers}
 use Rattle.model.specs.Step.{purges, manages, whenFound, accepted, judged, rule}
@@ -35,8 +35,8 @@ module _ (P : Result → Type 0) where
     pub cancel : eqb (e .kind) 6 ≡ true → P (turns (cancelled e v))
     pub acknowledge : eqb (e .kind) 7 ≡ true → P (turns (acknowledged e v))
     pub resolve : eqb (e .kind) 8 ≡ true → P (turns (resolved e v))
-    pub mark : eqb (e .kind) 13 ≡ true → marks v ≡ true → P (windowMarks e v)
-    pub turn : eqb (e .kind) 13 ≡ true → marks v ≡ false → P (turns (windowTurned e v))
+    pub mark : eqb (e .kind) 13 ≡ true → awaitsOld v ≡ true → P (windowMarks e v)
+    pub turn : eqb (e .kind) 13 ≡ true → awaitsOld v ≡ false → P (turns (windowTurned e v))
     pub broadcast : isBroadcast (e .kind) ≡ true → P (broadcasts bk e v others)
     pub purge : P (purges v)
 
@@ -47,7 +47,7 @@ module _ (P : Result → Type 0) where
       (λ _. by-test (eqb (e .kind) 6) (w .cancel)
       (λ _. by-test (eqb (e .kind) 7) (w .acknowledge)
       (λ _. by-test (eqb (e .kind) 8) (w .resolve)
-      (λ _. by-test (eqb (e .kind) 13) (λ q. by-test (marks v) (w .mark q) (w .turn q))
+      (λ _. by-test (eqb (e .kind) 13) (λ q. by-test (awaitsOld v) (w .mark q) (w .turn q))
       (λ _. by-test (isBroadcast (e .kind)) (w .broadcast) (λ _. w .purge))))))
 
   -- ---- creates

@@ -70,16 +70,16 @@ windowTurned e v =
 unfoldable pub windowMarked : Event → Version → Version
 windowMarked e v = turned e v (v .status) (v .canceller) true
 
--- the window marks: pending, and the new side has created
-abbrev pub marks : Version → Bool
-marks v = eqb (v .status) pending && v .new .created
+-- the window is the old side's: pending, and the new side has created
+abbrev pub awaitsOld : Version → Bool
+awaitsOld v = eqb (v .status) pending && v .new .created
 
 -- otherwise 11 [K4]
 unfoldable pub windowSpent : Version → Bool
-windowSpent v = marks v && (v .old .created || v .window)
+windowSpent v = awaitsOld v && (v .old .created || v .window)
 
 abbrev pub windowMarks : Event → Version → Result
 windowMarks e v = accept (windowTold (windowMarked e v)) (put (windowMarked e v) ∷ [])
 
 unfoldable pub windowRuns : Event → Version → Result
-windowRuns e v = cond (marks v) (windowMarks e v) (turns (windowTurned e v))
+windowRuns e v = cond (awaitsOld v) (windowMarks e v) (turns (windowTurned e v))

@@ -65,8 +65,8 @@ statusFor k s =
 abbrev pub isGridKind : ℕ → Bool
 isGridKind k = (leb kind.newModifies k && leb k kind.disconnect) || (leb kind.windowRanOut k && leb k kind.purge)
 
-abbrev pub placeOf : ℕ → ℕ
-placeOf k = cond (ltb k 11) (k - 3) (k - 5)
+abbrev pub gridPlace : ℕ → ℕ
+gridPlace k = cond (ltb k 11) (k - 3) (k - 5)
 
 abbrev pub kindAt : ℕ → ℕ
 kindAt j = cond (ltb j 8) (j + 3) (j + 5)

@@ -3,7 +3,7 @@ use model::Retries;
 ghost use mathlib.Core.Path.{_≡_};
 ghost use Prim.Native.Nat.{_≤_, _<_, _^_};
 ghost use Rattle.model.specs.Retries.{octal, withOctal, used, withUsed};
-ghost use Rattle.retries.specs.Words.{Words};
+ghost use Rattle.retries.specs.Octals.{Octals};
 
 fn digit(w: u64, q: u8) -> u8
     requires { ⌜ q < 21 ⌝ }
@@ -38,7 +38,7 @@ pub fn used(r: Retries, p: u8) -> u8
 // System p has used d.
 pub fn with_used(r: Retries, p: u8, d: u8) -> Retries
     requires { ⌜ (1 ≤ p) × (p ≤ 63) × (d < 8) ⌝ }
-    requires { ⌜ Words r ⌝ }
+    requires { ⌜ Octals r ⌝ }
     ensures { λ n. ⌜ n ≡ withUsed r p d ⌝ }
 {
     let mut next = r;

@@ -122,7 +122,7 @@ wordsOf v = record {
 }
 
 -- each field has room in its bits; the others have as many as their type
-pub record Small (v : Version) : Type 0 where
+pub record InBits (v : Version) : Type 0 where
   pub tn : v .id .tn .0 < 17179869184
   pub status : v .status < 16
   pub lrn : v .new .lrn .0 < 17179869184
@@ -135,7 +135,7 @@ pub record Small (v : Version) : Type 0 where
 
 -- what the bits can hold
 pub record Room (v : Version) : Type 0 where
-  pub small : Small v
+  pub small : InBits v
   pub number : v .id .number < 65536
   pub newDue : v .new .due < 4294967296
   pub oldDue : v .old .due < 4294967296

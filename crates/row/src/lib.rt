@@ -12,7 +12,7 @@ ghost use mathlib.Core.Path.{_≡_};
 ghost use mathlib.Core.List.{[], _∷_};
 ghost use Prim.Native.Nat.{_<_};
 ghost use Rattle.octets.specs.Fields.{join};
-ghost use Rattle.row.specs.Layout.{headWidths, termWidths, pairWidths, flag, idOf, newOf, oldOf, castOf, versionOf, spareless, headFields, termFields, wordsOf, Small};
+ghost use Rattle.row.specs.Layout.{headWidths, termWidths, pairWidths, flag, idOf, newOf, oldOf, castOf, versionOf, spareless, headFields, termFields, wordsOf, InBits};
 
 fn id_of(w: Words) -> Id
     ensures { λ r. ⌜ r ≡ idOf w ⌝ }
@@ -99,7 +99,7 @@ fn bit(b: bool) -> u64
 }
 
 fn head_of(v: Version) -> u64
-    requires { ⌜ Small v ⌝ }
+    requires { ⌜ InBits v ⌝ }
     ensures { λ r. ⌜ r ≡ join headWidths (headFields v) ⌝ }
 {
     let live = bit(v.live);
@@ -112,7 +112,7 @@ fn head_of(v: Version) -> u64
 }
 
 fn terms_of(v: Version) -> u64
-    requires { ⌜ Small v ⌝ }
+    requires { ⌜ InBits v ⌝ }
     ensures { λ r. ⌜ r ≡ join termWidths (termFields v) ⌝ }
 {
     let low = ((v.old.cause as u64) * 4 + v.canceller as u64) * 4 + v.cast.purpose as u64;
@@ -129,7 +129,7 @@ fn pair_of(a: u32, b: u32) -> u64
 
 // The words of a version whose fields have room in their bits.
 pub fn words_of(v: Version) -> Words
-    requires { ⌜ Small v ⌝ }
+    requires { ⌜ InBits v ⌝ }
     ensures { λ r. ⌜ r ≡ wordsOf v ⌝ }
 {
     let head = head_of(v);

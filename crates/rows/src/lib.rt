@@ -7,7 +7,7 @@ ghost use Prim.Native.Nat.{_+_, _*_, _≤_, _<_};
 ghost use lib.ListN.{length};
 ghost use Rattle.words.specs.Size.{ROW};
 ghost use Rattle.words.specs.Codec.{wordsIn, bytesOf, blank};
-ghost use Rattle.row.specs.Layout.{Small, pack, unpack};
+ghost use Rattle.row.specs.Layout.{InBits, pack, unpack};
 ghost use Rattle.rows.specs.Place.{rowAt, putRow, insRow, delRow, movedDown, movedUp};
 
 // The ten words of row i.
@@ -41,7 +41,7 @@ fn put(t: &mut [u8], i: usize, w: Words)
 // Row i becomes v's.
 pub fn store(t: &mut [u8], i: usize, v: Version)
     requires { ⌜ i * ROW + ROW ≤ length (now t) ⌝ }
-    requires { ⌜ Small v ⌝ }
+    requires { ⌜ InBits v ⌝ }
     ensures { λ _. ⌜ now (t .exit) ≡ putRow (now (t .entry)) i (pack v) ⌝ }
 {
     let w = row::words_of(v);
@@ -51,7 +51,7 @@ pub fn store(t: &mut [u8], i: usize, v: Version)
 // Row i becomes v's, and then row j w's.
 pub fn store_two(t: &mut [u8], i: usize, v: Version, j: usize, w: Version)
     requires { ⌜ (i * ROW + ROW ≤ length (now t)) × (j * ROW + ROW ≤ length (now t)) ⌝ }
-    requires { ⌜ Small v × Small w ⌝ }
+    requires { ⌜ InBits v × InBits w ⌝ }
     ensures { λ _. ⌜ now (t .exit) ≡ putRow (putRow (now (t .entry)) i (pack v)) j (pack w) ⌝ }
 {
     store(t, i, v);
@@ -85,7 +85,7 @@ fn move_up(t: &mut [u8], a: usize, e: usize)
 // Puts v in before row i of the n used ones; row n, a free one, is used up.
 pub fn insert(t: &mut [u8], i: usize, n: usize, v: Version)
     requires { ⌜ (i ≤ n) × (n * ROW + ROW ≤ length (now t)) ⌝ }
-    requires { ⌜ Small v ⌝ }
+    requires { ⌜ InBits v ⌝ }
     ensures { λ _. ⌜ now (t .exit) ≡ insRow (now (t .entry)) i n (pack v) ⌝ }
 {
     let a = i * ROW;

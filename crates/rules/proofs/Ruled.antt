@@ -15,7 +15,7 @@ use Rattle.model.specs.Sound.{live}
 use Rattle.model.specs.Record.{isModify, isBroadcast}
 use Rattle.model.specs.Given.{Result, accept, newest}
 use Rattle.model.specs.Tray.{noLrn, toSoas, sidesTold, members, downloads, downloadTo, restatedTold, windowTold, createdTold}
-use Rattle.model.specs.Changes.{modified, turns, cancelled, acknowledged, resolved, marks, windowMarked, windowTurned, windowRuns}
+use Rattle.model.specs.Changes.{modified, turns, cancelled, acknowledged, resolved, awaitsOld, windowMarked, windowTurned, windowRuns}
 use Rattle.model.specs.Closing.{open?, closed, closingTold, retired, retires, retiring, takesOver, settled, settles, settlingTold}
 use Rattle.model.specs.Broadcast.{opened, broadcastOf, broadcasts}
 use Rattle.model.specs.Answers.{answering, again, heard, askedAgain, answers}
@@ -75,14 +75,14 @@ puts-as {x} {y} {i} {k} {l} {r} e n p t free h =
     subst (λ (z : Result). Says z t free r) e (p t free (h .0, h .1 ∙ sym n))
 
 module _ (e : Event) (v w : Version) (i : ℕ) (r : Verdict) where
-  pub window-marks : marks v ≡ true → w ≡ windowMarked e v → Puts (accept (windowTold w) (put w ∷ [])) i (w .id) r
+  pub window-marks : awaitsOld v ≡ true → w ≡ windowMarked e v → Puts (accept (windowTold w) (put w ∷ [])) i (w .id) r
       → Puts (windowRuns e v) i (v .id) r
   unfolding windowRuns
   window-marks m q =
       rw m (puts-as (ap (λ (x : Version). accept (windowTold x) (put x ∷ [])) q)
       (ap (λ (x : Version). x .id) q ∙ window-marked-stays e v .name))
 
-  pub window-turns : marks v ≡ false → w ≡ windowTurned e v → Puts (turns w) i (w .id) r → Puts (windowRuns e v) i (v .id) r
+  pub window-turns : awaitsOld v ≡ false → w ≡ windowTurned e v → Puts (turns w) i (w .id) r → Puts (windowRuns e v) i (v .id) r
   unfolding windowRuns
   window-turns m q = rw m (puts-as (ap turns q) (ap (λ (x : Version). x .id) q ∙ window-turned-stays e v .name))
 

@@ -12,7 +12,7 @@ ghost use mathlib.Core.Bool.{cond};
 ghost use Prim.Native.Nat.{_<_};
 ghost use lib.Dec.{eqb};
 ghost use Rattle.model.specs.Creates.{newJoined, oldJoined, newAbsent, oldAbsent, newIn, oldIn, byNew, newFrom, oldFrom, statusBy, noBroadcast, freshNumbered, fits, firstDue, agrees, concurred};
-ghost use Rattle.model.specs.Changes.{newModified, oldModified, modified, turned, cancelled, acknowledged, ownCancel, resolved, windowTurned, windowMarked, windowSpent, marks};
+ghost use Rattle.model.specs.Changes.{newModified, oldModified, modified, turned, cancelled, acknowledged, ownCancel, resolved, windowTurned, windowMarked, windowSpent, awaitsOld};
 ghost use Rattle.model.specs.Standing.{standingOf};
 
 fn standing_by(npac: bool, new: bool, old: bool) -> u8
@@ -272,9 +272,9 @@ pub fn resolved(e: Event, v: Version) -> Version
     w
 }
 
-// The window marks: pending, and the new side has created.
+// The window is the old side's: pending, and the new side has created.
 pub fn window_marks(v: Version) -> bool
-    ensures { λ r. ⌜ r ≡ marks v ⌝ }
+    ensures { λ r. ⌜ r ≡ awaitsOld v ⌝ }
 {
     (v.status == 0) & v.new.created
 }

@@ -8,7 +8,7 @@ use lib.Dec.{eqb, ltb}
 use lib.ListN.{getD}
 use Rattle.model.specs.Basics.{iff, implies, among, every}
 use Rattle.model.specs.Sound.{isPurposed}
-use Rattle.sound.specs.Marks.{fitting}
+use Rattle.sound.specs.Marks.{fitBits}
 use Rattle.model.proofs.Lists.{conj-at}
 use Rattle.model.proofs.SoundSets.{every-at}
 
@@ -19,7 +19,7 @@ rule s p l n o =
     && (iff (ltb 0 p) (isPurposed s) && implies (among s (4 ∷ 5 ∷ [])) (eqb p 1)) && cond (eqb s 3) (l || eqb p 1) (iff l (among s (5 ∷ 6 ∷ [])))
 
 abbrev pub entry : ℕ → ℕ → Bool → Bool → Bool → Bool
-entry s p l n o = eqb (getD fitting s 0 / 2 ^ (p * 8 + cond l 1 0 * 4 + cond n 1 0 * 2 + cond o 1 0) % 2) 1
+entry s p l n o = eqb (getD fitBits s 0 / 2 ^ (p * 8 + cond l 1 0 * 4 + cond n 1 0 * 2 + cond o 1 0) % 2) 1
 
 abbrev agree : ℕ → ℕ → Bool → Bool → Bool → Bool
 agree s p l n o = iff (entry s p l n o) (rule s p l n o)
@@ -44,7 +44,7 @@ right-at s p false false true e = conj-at (cases (agree s p)) e 6
 right-at s p false false false e = conj-at (cases (agree s p)) e 7
 
 computed : every (λ (s : ℕ). every (λ (p : ℕ). right (s - 1) (p - 1)) 4) 9 ≡ true
-unfolding every right fitting
+unfolding every right fitBits
 computed = refl
 
 iff-same : (a b : Bool) → iff a b ≡ true → a ≡ b

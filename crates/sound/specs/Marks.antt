@@ -11,5 +11,5 @@ unfoldable pub marksFit : Version → Bool
 marksFit v = oneCreated v && sidesNeeded v && purposeFits v && liveFits v
 
 -- the same as a table: of each status, the purposes and marks that fit, as bits
-unfoldable pub fitting : List ℕ
-fitting = 14 ∷ 10 ∷ 8 ∷ 3233860608 ∷ 3072 ∷ 49152 ∷ 3233857536 ∷ 12 ∷ 14 ∷ []
+unfoldable pub fitBits : List ℕ
+fitBits = 14 ∷ 10 ∷ 8 ∷ 3233860608 ∷ 3072 ∷ 49152 ∷ 3233857536 ∷ 12 ∷ 14 ∷ []

@@ -6,7 +6,7 @@ use mathlib.Core.List.{List}
 use Prim.Native.Nat.{ℕ, _<_}
 use Rattle.model.specs.declared.Version.{Version}
 use Rattle.model.specs.Table.{find}
-use Rattle.row.specs.Layout.{Small}
+use Rattle.row.specs.Layout.{InBits}
 use Rattle.verdict.specs.declared.Rows.{Rows}
 use Rattle.verdict.specs.declared.Rows.the-variants.{Nothing, Put, PutTwo, Add, Strike}
 use Rattle.table.specs.Survey.{versionAt}
@@ -15,13 +15,13 @@ use Rattle.table.specs.Survey.{versionAt}
 pub record Over (t : List Version) (n i : ℕ) (v : Version) : Type 0 where
   pub place : i < n
   pub name : versionAt t i .id ≡ v .id
-  pub small : Small v
+  pub small : InBits v
 
 -- v may be added to a table of so many rows that says t, n versions: a row is free, and no version has its name
 pub record Fresh (t : List Version) (n rows : ℕ) (v : Version) : Type 0 where
   pub free : n < rows
   pub absent : find (v .id) t ≡ none
-  pub small : Small v
+  pub small : InBits v
 
 -- the rows may be changed in a table of so many rows that says t, n versions
 abbrev pub Applicable : List Version → ℕ → ℕ → Rows → Type 0

@@ -2,44 +2,44 @@
 use Prim.Native.Nat.{_≤_}
 use native.Mathlib.Omega.{arith}
 use Rattle.sound.proofs.Fitting.{above}
-use Rattle.sound.specs.Marks.{fitting}
+use Rattle.sound.specs.Marks.{fitBits}
 use Rattle.sound.proofs.marks.places.Statement.{statement}
 use Rattle.sound.proofs.marks.places.Tie as tie
 
 returns : tie.Need-returns
-unfolding fitting
+unfolding fitBits
 returns c = simp (c .match .keys1)
 
 returns-2 : tie.Need-returns-2
-unfolding fitting
+unfolding fitBits
 returns-2 c = simp (c .match .keys2)
 
 returns-3 : tie.Need-returns-3
-unfolding fitting
+unfolding fitBits
 returns-3 c = simp (c .match .keys3)
 
 returns-4 : tie.Need-returns-4
-unfolding fitting
+unfolding fitBits
 returns-4 c = simp (c .match .keys4)
 
 returns-5 : tie.Need-returns-5
-unfolding fitting
+unfolding fitBits
 returns-5 c = simp (c .match .keys5)
 
 returns-6 : tie.Need-returns-6
-unfolding fitting
+unfolding fitBits
 returns-6 c = simp (c .match .keys6)
 
 returns-7 : tie.Need-returns-7
-unfolding fitting
+unfolding fitBits
 returns-7 c = simp (c .match .keys7)
 
 returns-8 : tie.Need-returns-8
-unfolding fitting
+unfolding fitBits
 returns-8 c = simp (c .match .keys8)
 
 returns-9 : tie.Need-returns-9
-unfolding fitting
+unfolding fitBits
 returns-9 c = simp (c .match .keys9)
 
 returns-10 : tie.Need-returns-10
