@@ -104,12 +104,12 @@ module _ (p d : ℕ) (l : 1 ≤ p) (m : p < 64) (h : d < 8) (c : Broadcast) (w :
       take true = x .waiting
       take false = set-without (c .waiting) p (x .waiting) l w
 
-  abbrev fitting : Broadcast → ℕ → Bool
-  fitting b q = member (b .waiting) q || eqb (used (b .retries) q) 0
+  abbrev keptFit : Broadcast → ℕ → Bool
+  keptFit b q = member (b .waiting) q || eqb (used (b .retries) q) 0
 
   fits-moves : (again success : Bool) (n : ℕ) → cond again (n + 1) 0 < 8 → retriesFit c ≡ true → retriesFit (moves again success p n c) ≡ true
   unfolding retriesFit
-  fits-moves a s n k x = every-all (fitting (moves a s p n c)) 63 (λ q lq mq. go q lq mq (eqb q p) refl)
+  fits-moves a s n k x = every-all (keptFit (moves a s p n c)) 63 (λ q lq mq. go q lq mq (eqb q p) refl)
     where
       same : (b : Bool) → cond b (n + 1) 0 < 8 → (member (cond b (c .waiting) (c .waiting - 2 ^ p)) p || eqb (used (withUsed (c .retries) p (cond b (n + 1) 0)) p) 0) ≡ true
       same true k = rw w
@@ -119,13 +119,13 @@ module _ (p d : ℕ) (l : 1 ≤ p) (m : p < 64) (h : d < 8) (c : Broadcast) (w :
       kept q ne true = refl
       kept q ne false = without-other (c .waiting) p q w ne
 
-      go : (q : ℕ) → 1 ≤ q → q ≤ 63 → (b : Bool) → eqb q p ≡ b → fitting (moves a s p n c) q ≡ true
-      go q lq mq true e = subst (λ (j : ℕ). fitting (moves a s p n c) j ≡ true) (sym (eqb-true q p e)) (same a k)
+      go : (q : ℕ) → 1 ≤ q → q ≤ 63 → (b : Bool) → eqb q p ≡ b → keptFit (moves a s p n c) q ≡ true
+      go q lq mq true e = subst (λ (j : ℕ). keptFit (moves a s p n c) j ≡ true) (sym (eqb-true q p e)) (same a k)
       go q lq mq false e =
           let ne : q ≡ p → ⊥ = eqb-false q p e in
           ap₂ (λ (x : Bool) (y : ℕ). x || eqb y 0) (kept q ne a)
           (used-other (c .retries) p (cond a (n + 1) 0) k q l lq (λ z. ne (sym z)))
-          ∙ every-at (fitting c) 63 q x lq mq
+          ∙ every-at (keptFit c) 63 q x lq mq
 
 -- ---- the version
 module _ (most : ℕ) (small : most ≤ 7) (e : Event) (v : Version) (row : Row v) (aw : awaited e v ≡ true) (l : 1 ≤ answering e) (m : answering e < 64)

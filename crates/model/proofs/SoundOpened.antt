@@ -54,11 +54,11 @@ none-used = refl
 -- what an event of these kinds may count on
 pub record Allowed (e : Event) (v : Version) : Type 0 where
   pub stands : standsFor (e .kind) (standingOf e v) ≡ true
-  pub fitting : statusFor (e .kind) (v .status) ≡ true
+  pub allowed : statusFor (e .kind) (v .status) ≡ true
 
 module _ (e : Event) (v : Version) (al : Allowed e v) where
   pub status-of : (n : ℕ) → eqb (e .kind) n ≡ true → statusFor n (v .status) ≡ true
-  status-of n q = at-equal (e .kind) n (λ (k : ℕ). statusFor k (v .status) ≡ true) q (al .fitting)
+  status-of n q = at-equal (e .kind) n (λ (k : ℕ). statusFor k (v .status) ≡ true) q (al .allowed)
 
   pub stands-of : (n : ℕ) → eqb (e .kind) n ≡ true → standsFor n (standingOf e v) ≡ true
   stands-of n q = at-equal (e .kind) n (λ (k : ℕ). standsFor k (standingOf e v) ≡ true) q (al .stands)
