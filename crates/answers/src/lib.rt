@@ -2,6 +2,8 @@
 use model::Broadcast;
 use model::Event;
 use model::Version;
+use model::kind;
+use model::mark;
 ghost use mathlib.Core.Path.{_≡_};
 ghost use mathlib.Core.Bool.{true, false};
 ghost use Prim.Native.Nat.{_≤_, _<_, max};
@@ -12,7 +14,11 @@ ghost use Rattle.answers.specs.Waits.{Waits};
 pub fn answering(e: Event) -> u8
     ensures { λ r. ⌜ r ≡ answering e ⌝ }
 {
-    if e.kind == 11 { e.sender } else { e.other }
+    if e.kind == kind::REPLY {
+        e.sender
+    } else {
+        e.other
+    }
 }
 
 pub fn awaited(e: Event, v: Version) -> bool
@@ -27,13 +33,13 @@ pub fn again(most: u8, e: Event, c: Broadcast) -> bool
     ensures { λ r. ⌜ r ≡ again most e c ⌝ }
 {
     let n = retries::used(c.retries, answering(e));
-    (e.kind == 12) & (n < most)
+    (e.kind == kind::SILENCE) & (n < most)
 }
 
 fn succeeds(e: Event) -> bool
     ensures { λ r. ⌜ r ≡ succeeds e ⌝ }
 {
-    (e.kind == 11) & (e.mark == 1)
+    (e.kind == kind::REPLY) & (e.mark == mark::YES)
 }
 
 // System p, which is waited for, is asked again.

@@ -1,6 +1,8 @@
 // How a broadcast closes, and what its close makes old. Each promise is an equation with a definition of the model.
 use model::Broadcast;
 use model::Version;
+use model::purpose;
+use model::status;
 ghost use mathlib.Core.Path.{_≡_};
 ghost use mathlib.Core.Bool.{cond};
 ghost use lib.Dec.{eqb};
@@ -18,20 +20,24 @@ fn close_by(none_failed: bool, none_confirmed: bool, act: bool, dis: bool) -> u8
 {
     if act {
         if none_failed {
-            return 6;
+            return status::ACTIVE;
         }
         if none_confirmed {
-            return 4;
+            return status::FAILED;
         }
-        return 5;
+        return status::PARTIAL_FAILURE;
     }
     if dis {
         if none_failed {
-            return 7;
+            return status::OLD;
         }
-        return if none_confirmed { 6 } else { 7 };
+        return if none_confirmed {
+            status::ACTIVE
+        } else {
+            status::OLD
+        };
     }
-    6
+    status::ACTIVE
 }
 
 fn close_to(c: Broadcast) -> u8
@@ -40,8 +46,8 @@ fn close_to(c: Broadcast) -> u8
     close_by(
         c.failed == 0,
         c.confirmed == 0,
-        c.purpose == 1,
-        c.purpose == 3,
+        c.purpose == purpose::ACTIVATE,
+        c.purpose == purpose::DISCONNECT,
     )
 }
 
@@ -49,7 +55,11 @@ fn close_to(c: Broadcast) -> u8
 fn kept_purpose(status: u8, purpose: u8) -> u8
     ensures { λ r. ⌜ r ≡ cond (eqb status 7) 0 purpose ⌝ }
 {
-    if status == 7 { 0 } else { purpose }
+    if status == status::OLD {
+        purpose::NONE
+    } else {
+        purpose
+    }
 }
 
 pub fn closed(v: Version) -> Version
@@ -61,7 +71,7 @@ pub fn closed(v: Version) -> Version
     c.start = 0;
     let mut w = v;
     w.status = status;
-    w.live = (status == 5) | (status == 6);
+    w.live = (status == status::PARTIAL_FAILURE) | (status == status::ACTIVE);
     w.cast = c;
     w
 }
@@ -80,7 +90,7 @@ pub fn settled(v: Version) -> Version
 pub fn takes_over(v: Version) -> bool
     ensures { λ r. ⌜ r ≡ takesOver v ⌝ }
 {
-    (v.cast.purpose == 1) & closed(v).live
+    (v.cast.purpose == purpose::ACTIVATE) & closed(v).live
 }
 
 // The live version that a close makes old.
@@ -88,9 +98,9 @@ pub fn retired(stamp: u32, v: Version) -> Version
     ensures { λ r. ⌜ r ≡ retired stamp v ⌝ }
 {
     let mut c = v.cast;
-    c.purpose = 0;
+    c.purpose = purpose::NONE;
     let mut w = v;
-    w.status = 7;
+    w.status = status::OLD;
     w.stamp = stamp;
     w.live = false;
     w.cast = c;

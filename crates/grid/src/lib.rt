@@ -3,6 +3,8 @@ ghost use mathlib.Core.Path.{_≡_};
 ghost use mathlib.Core.Bool.{true};
 ghost use Prim.Native.Nat.{_<_, _≤_};
 ghost use Rattle.model.specs.Standing.{gridRule, gridPlace, isGridKind};
+use model::kind;
+use model::standing;
 
 // Entry (status * 11 + place of the kind) * 3 + standing.
 const GRID: [u8; 297] = [
@@ -310,8 +312,8 @@ fn place_of(kind: u8) -> usize
     requires { ⌜ isGridKind kind ≡ true ⌝ }
     ensures { λ r. ⌜ (r ≡ gridPlace kind) × (r < 11) ⌝ }
 {
-    if kind < 11 {
-        (kind - 3) as usize
+    if kind < kind::REPLY {
+        (kind - kind::NEW_MODIFIES) as usize
     } else {
         (kind - 5) as usize
     }
@@ -322,7 +324,7 @@ pub fn grid(status: u8, kind: u8, standing: u8) -> u8
     requires { ⌜ (status < 9) × (isGridKind kind ≡ true) ⌝ }
     ensures { λ r. ⌜ r ≡ gridRule status kind standing ⌝ }
 {
-    if 3 <= standing {
+    if standing::OTHER <= standing {
         return 6;
     }
     let place = place_of(kind);

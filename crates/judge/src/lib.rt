@@ -3,6 +3,9 @@ use model::Event;
 use model::Marks;
 use model::Outcome;
 use model::Version;
+use model::kind;
+use model::limit;
+use model::status;
 use table::survey::Facts;
 use table::survey::Seen;
 ghost use mathlib.Core.Path.{_≡_};
@@ -96,7 +99,7 @@ pub fn create(e: Event, absent: bool, owner: u8, f: Facts, free: bool) -> Outcom
     let parted = another_due(e, worked);
     let fresh = nobody(worked);
     let early = e.time < f.stamp;
-    let exhausted = fresh & (65535 <= f.newest);
+    let exhausted = fresh & (limit::NUMBER <= f.newest);
     let full = fresh & !free;
     let o = first(full, Outcome::Full, Outcome::Done);
     let o = first(exhausted, Outcome::Exhausted, o);
@@ -133,32 +136,33 @@ pub fn answer(e: Event, absent: bool, v: Version) -> Outcome
 fn unready(e: Event, v: Version) -> bool
     ensures { λ r. ⌜ r ≡ unready e v ⌝ }
 {
-    if e.kind == 5 {
+    if e.kind == kind::ACTIVATE {
         return !(v.old.created | v.window);
     }
-    if (e.kind == 9) | (e.kind == 10) {
+    if (e.kind == kind::MODIFY_ACTIVE) | (e.kind == kind::DISCONNECT) {
         return v.cast.failed != 0;
     }
-    (e.kind == 14) & (v.status == 6) & (v.cast.failed == 0)
+    (e.kind == kind::RESEND) & (v.status == status::ACTIVE) & (v.cast.failed == 0)
 }
 
 fn busy(e: Event, f: Facts, v: Version) -> bool
     ensures { λ r. ⌜ r ≡ busyFor e f v ⌝ }
 {
     if opening::is_broadcast(e.kind) {
-        return f.blocked | ((e.kind == 14) & (v.status == 4) & (v.id.number < f.newest));
+        return f.blocked
+            | ((e.kind == kind::RESEND) & (v.status == status::FAILED) & (v.id.number < f.newest));
     }
-    (e.kind == 15) & (f.newest <= v.id.number)
+    (e.kind == kind::PURGE) & (f.newest <= v.id.number)
 }
 
 fn idle(e: Event, v: Version) -> bool
     ensures { λ r. ⌜ r ≡ idle e v ⌝ }
 {
-    if e.kind == 7 {
+    if e.kind == kind::ACKNOWLEDGE_CANCEL {
         return sides::own_cancel(e, v);
     }
     let spent = sides::window_spent(v);
-    (e.kind == 13) & spent
+    (e.kind == kind::WINDOW_RAN_OUT) & spent
 }
 
 pub fn other(e: Event, absent: bool, f: Facts, v: Version) -> Outcome
@@ -170,7 +174,7 @@ pub fn other(e: Event, absent: bool, f: Facts, v: Version) -> Outcome
     let finer = unready(e, v);
     let taken = busy(e, f, v);
     let spent = idle(e, v);
-    let early = (e.time < f.stamp) | ((e.kind == 5) & (e.time < v.new.due));
+    let early = (e.time < f.stamp) | ((e.kind == kind::ACTIVATE) & (e.time < v.new.due));
     let o = first(spent, Outcome::Unawaited, Outcome::Done);
     let o = first(early, Outcome::Early, o);
     let o = first(taken, Outcome::Busy, o);

@@ -5,6 +5,9 @@ ghost use Rattle.model.specs.Record.{twoSides, authorizes as authorizesWith, ne
 use model::Event;
 use model::Lrn;
 use model::Tn;
+use model::kind;
+use model::limit;
+use model::mark;
 
 // Ten digits, the first and the fourth 2 to 9. [N1]
 fn ten_digits(x: u64) -> bool
@@ -34,14 +37,15 @@ fn two_sides(a: u8, b: u8) -> bool
 fn authorizes(mark: u8, cause: u8) -> bool
     ensures { λ r. ⌜ r ≡ authorizesWith mark cause ⌝ }
 {
-    ((mark == 1) & (cause == 0)) | ((mark == 2) & (0 < cause) & (cause <= 99))
+    ((mark == mark::YES) & (cause == 0))
+        | ((mark == mark::NO) & (0 < cause) & (cause <= limit::CAUSE))
 }
 
 fn new_creates(e: Event) -> bool
     ensures { λ r. ⌜ r ≡ newCreates e ⌝ }
 {
     two_sides(e.sender, e.other)
-        & (e.mark == 0)
+        & (e.mark == mark::NONE)
         & (e.cause == 0)
         & is_lrn(e.lrn)
         & (e.version == 0)
@@ -61,7 +65,12 @@ fn old_creates(e: Event) -> bool
 fn new_modifies(e: Event) -> bool
     ensures { λ r. ⌜ r ≡ newModifies e ⌝ }
 {
-    (e.other == 0) & (e.mark == 0) & (e.cause == 0) & is_lrn(e.lrn) & (0 < e.version) & (0 < e.due)
+    (e.other == 0)
+        & (e.mark == mark::NONE)
+        & (e.cause == 0)
+        & is_lrn(e.lrn)
+        & (0 < e.version)
+        & (0 < e.due)
 }
 
 fn old_modifies(e: Event) -> bool
@@ -73,7 +82,12 @@ fn old_modifies(e: Event) -> bool
 fn modifies_active(e: Event) -> bool
     ensures { λ r. ⌜ r ≡ modifiesActive e ⌝ }
 {
-    (e.other == 0) & (e.mark == 0) & (e.cause == 0) & is_lrn(e.lrn) & (0 < e.version) & (e.due == 0)
+    (e.other == 0)
+        & (e.mark == mark::NONE)
+        & (e.cause == 0)
+        & is_lrn(e.lrn)
+        & (0 < e.version)
+        & (e.due == 0)
 }
 
 fn replies(e: Event) -> bool
@@ -81,7 +95,7 @@ fn replies(e: Event) -> bool
 {
     (0 < e.sender)
         & (e.other == 0)
-        & ((e.mark == 1) | (e.mark == 2))
+        & ((e.mark == mark::YES) | (e.mark == mark::NO))
         & (e.cause == 0)
         & (e.lrn.0 == 0)
         & (0 < e.version)
@@ -93,7 +107,7 @@ fn silent(e: Event) -> bool
 {
     (e.sender == 0)
         & (0 < e.other)
-        & (e.mark == 0)
+        & (e.mark == mark::NONE)
         & (e.cause == 0)
         & (e.lrn.0 == 0)
         & (0 < e.version)
@@ -104,7 +118,7 @@ fn plainly(e: Event) -> bool
     ensures { λ r. ⌜ r ≡ plainlyOf e ⌝ }
 {
     (e.other == 0)
-        & (e.mark == 0)
+        & (e.mark == mark::NONE)
         & (e.cause == 0)
         & (e.lrn.0 == 0)
         & (0 < e.version)
@@ -117,14 +131,16 @@ fn kind_fits(e: Event) -> bool
 {
     let kind = e.kind;
     match kind {
-        1 => new_creates(e),
-        2 => old_creates(e),
-        3 => new_modifies(e),
-        4 => old_modifies(e),
-        9 => modifies_active(e),
-        11 => replies(e),
-        12 => silent(e),
-        5..=8 | 10 | 13..=15 => plainly(e),
+        kind::NEW_CREATES => new_creates(e),
+        kind::OLD_CREATES => old_creates(e),
+        kind::NEW_MODIFIES => new_modifies(e),
+        kind::OLD_MODIFIES => old_modifies(e),
+        kind::MODIFY_ACTIVE => modifies_active(e),
+        kind::REPLY => replies(e),
+        kind::SILENCE => silent(e),
+        kind::ACTIVATE..=kind::RESOLVE_CONFLICT
+        | kind::DISCONNECT
+        | kind::WINDOW_RAN_OUT..=kind::PURGE => plainly(e),
         _ => false,
     }
 }

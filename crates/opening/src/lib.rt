@@ -4,6 +4,9 @@ use model::Event;
 use model::NewSide;
 use model::Retries;
 use model::Version;
+use model::kind;
+use model::purpose;
+use model::status;
 ghost use mathlib.Core.Path.{_≡_};
 ghost use mathlib.Core.Bool.{cond};
 ghost use Rattle.model.specs.Record.{isBroadcast};
@@ -13,26 +16,31 @@ ghost use Rattle.model.specs.Broadcast.{resends, newFor, askedFor, purposeFor, 
 pub fn is_broadcast(kind: u8) -> bool
     ensures { λ r. ⌜ r ≡ isBroadcast kind ⌝ }
 {
-    (kind == 5) | ((kind == 9) | ((kind == 10) | (kind == 14)))
+    (kind == kind::ACTIVATE)
+        | ((kind == kind::MODIFY_ACTIVE) | ((kind == kind::DISCONNECT) | (kind == kind::RESEND)))
 }
 
 fn purpose_for(e: Event, v: Version) -> u8
     ensures { λ r. ⌜ r ≡ purposeFor e v ⌝ }
 {
-    if e.kind == 14 {
+    if e.kind == kind::RESEND {
         return v.cast.purpose;
     }
-    if e.kind == 5 {
-        return 1;
+    if e.kind == kind::ACTIVATE {
+        return purpose::ACTIVATE;
     }
-    if e.kind == 9 { 2 } else { 3 }
+    if e.kind == kind::MODIFY_ACTIVE {
+        purpose::MODIFY
+    } else {
+        purpose::DISCONNECT
+    }
 }
 
 // Whom a broadcast asks: all selected systems, or at a resend those failed that are selected now.
 fn asked_for(selected: u64, e: Event, v: Version) -> u64
     ensures { λ r. ⌜ r ≡ askedFor selected e v ⌝ }
 {
-    if e.kind == 14 {
+    if e.kind == kind::RESEND {
         return systems::meet(v.cast.failed, selected);
     }
     selected
@@ -41,7 +49,11 @@ fn asked_for(selected: u64, e: Event, v: Version) -> u64
 fn confirmed_for(e: Event, v: Version) -> u64
     ensures { λ r. ⌜ r ≡ cond (resends e) (v .cast .confirmed) 0 ⌝ }
 {
-    if e.kind == 14 { v.cast.confirmed } else { 0 }
+    if e.kind == kind::RESEND {
+        v.cast.confirmed
+    } else {
+        0
+    }
 }
 
 // 9 replaces the LRN at once.
@@ -50,7 +62,7 @@ fn new_for(e: Event, v: Version) -> NewSide
 {
     let lrn = e.lrn;
     let mut new = v.new;
-    if e.kind == 9 {
+    if e.kind == kind::MODIFY_ACTIVE {
         new.lrn = lrn;
         return new;
     }
@@ -66,7 +78,7 @@ pub fn opened(selected: u64, e: Event, v: Version) -> Version
     let confirmed = confirmed_for(e, v);
     let waiting = asked_for(selected, e, v);
     let mut w = v;
-    w.status = 3;
+    w.status = status::SENDING;
     w.stamp = e.time;
     w.new = new;
     let cast = Broadcast {

@@ -4,6 +4,8 @@ use model::Event;
 use model::Lrn;
 use model::Outcome;
 use model::Version;
+use model::kind;
+use model::sort;
 use table::survey::Seen;
 use verdict::Mail;
 use verdict::Rows;
@@ -33,7 +35,7 @@ ghost use Rattle.rules.specs.Rules.{Puts, Settles, Adds, replacedBy, Set
 fn turned(i: usize, w: Version) -> Verdict
     ensures { λ r. ⌜ Puts (turns w) i (w .id) r ⌝ }
 {
-    let run = told::sides(w, 2, 0, Lrn(0));
+    let run = told::sides(w, sort::STATUS, 0, Lrn(0));
     Verdict {
         out: Outcome::Done,
         rows: Rows::Put(w, i),
@@ -46,7 +48,7 @@ fn restated(i: usize, v: Version, w: Version) -> Verdict
     ensures { λ r. ⌜ Puts (accept (restatedTold v w) (put w ∷ [])) i (w .id) r ⌝ }
 {
     let lrn = w.new.lrn;
-    let attributes = told::sides(w, 3, 0, lrn);
+    let attributes = told::sides(w, sort::ATTRIBUTES, 0, lrn);
     if v.status == w.status {
         return Verdict {
             out: Outcome::Done,
@@ -54,7 +56,7 @@ fn restated(i: usize, v: Version, w: Version) -> Verdict
             mail: Mail::One(attributes),
         };
     }
-    let status = told::sides(w, 2, 0, Lrn(0));
+    let status = told::sides(w, sort::STATUS, 0, Lrn(0));
     Verdict {
         out: Outcome::Done,
         rows: Rows::Put(w, i),
@@ -66,7 +68,7 @@ fn restated(i: usize, v: Version, w: Version) -> Verdict
 fn marked(i: usize, w: Version) -> Verdict
     ensures { λ r. ⌜ Puts (accept (windowTold w) (put w ∷ [])) i (w .id) r ⌝ }
 {
-    let run = told::side(w, w.old.provider, 7, 0, Lrn(0));
+    let run = told::side(w, w.old.provider, sort::WINDOW, 0, Lrn(0));
     Verdict {
         out: Outcome::Done,
         rows: Rows::Put(w, i),
@@ -155,7 +157,7 @@ fn plain(selected: u64, i: usize, e: Event, v: Version, lives: Seen) -> Verdict
 fn is_modify(kind: u8) -> bool
     ensures { λ r. ⌜ r ≡ isModify kind ⌝ }
 {
-    (kind == 3) | (kind == 4)
+    (kind == kind::NEW_MODIFIES) | (kind == kind::OLD_MODIFIES)
 }
 
 // Kinds 3 to 10 and 13 to 15 for v, at place i; `selected` is whom a broadcast asks.
@@ -165,10 +167,10 @@ pub fn managed(selected: u64, i: usize, e: Event, v: Version, lives: Seen) -> Ve
 {
     let kind = e.kind;
     match kind {
-        6 => turned(i, sides::cancelled(e, v)),
-        7 => turned(i, sides::acknowledged(e, v)),
-        8 => turned(i, sides::resolved(e, v)),
-        13 => window(i, e, v),
+        kind::CANCEL => turned(i, sides::cancelled(e, v)),
+        kind::ACKNOWLEDGE_CANCEL => turned(i, sides::acknowledged(e, v)),
+        kind::RESOLVE_CONFLICT => turned(i, sides::resolved(e, v)),
+        kind::WINDOW_RAN_OUT => window(i, e, v),
         _ => plain(selected, i, e, v, lives),
     }
 }
@@ -219,7 +221,7 @@ pub fn answered(most: u8, i: usize, e: Event, v: Version, lives: Seen) -> Verdic
 fn added(w: Version) -> Verdict
     ensures { λ r. ⌜ Adds (accept (createdTold w) (add w ∷ [])) (w .id) r ⌝ }
 {
-    let run = told::sides(w, 1, 0, Lrn(0));
+    let run = told::sides(w, sort::CREATION, 0, Lrn(0));
     Verdict {
         out: Outcome::Done,
         rows: Rows::Add(w),

@@ -5,6 +5,7 @@ pub mod told;
 use model::Event;
 use model::Outcome;
 use model::Version;
+use model::kind;
 use table::survey::Facts;
 use table::survey::Seen;
 use verdict::Mail;
@@ -82,13 +83,13 @@ fn on_other(e: Event, k: Known, f: Facts, i: usize, v: Version) -> Verdict
 pub fn is_create(kind: u8) -> bool
     ensures { λ r. ⌜ r ≡ isCreate kind ⌝ }
 {
-    (kind == 1) | (kind == 2)
+    (kind == kind::NEW_CREATES) | (kind == kind::OLD_CREATES)
 }
 
 fn is_answer(kind: u8) -> bool
     ensures { λ r. ⌜ r ≡ isAnswer kind ⌝ }
 {
-    (kind == 11) | (kind == 12)
+    (kind == kind::REPLY) | (kind == kind::SILENCE)
 }
 
 // A well-formed event, over the facts of its number.

@@ -2,6 +2,8 @@
 use model::Lrn;
 use model::Message;
 use model::Version;
+use model::purpose;
+use model::sort;
 use verdict::Run;
 use verdict::To;
 ghost use mathlib.Core.Path.{_≡_};
@@ -60,7 +62,7 @@ pub fn download(w: Version, to: To) -> Run
     let say = Message {
         local: true,
         provider: 0,
-        sort: 3 + w.cast.purpose,
+        sort: sort::DOWNLOAD + w.cast.purpose,
         id,
         status: w.status,
         failed: 0,
@@ -74,8 +76,8 @@ pub fn close(w: Version) -> Run
     ensures { λ r. ⌜ runOf r ≡ closingTold w ⌝ }
 {
     let v = closing::closed(w);
-    if w.cast.purpose == 1 {
-        return sides(v, 2, w.cast.failed, Lrn(0));
+    if w.cast.purpose == purpose::ACTIVATE {
+        return sides(v, sort::STATUS, w.cast.failed, Lrn(0));
     }
-    side(v, v.new.provider, 2, w.cast.failed, Lrn(0))
+    side(v, v.new.provider, sort::STATUS, w.cast.failed, Lrn(0))
 }

@@ -7,6 +7,12 @@ use model::NewSide;
 use model::OldSide;
 use model::Retries;
 use model::Version;
+use model::canceller;
+use model::kind;
+use model::mark;
+use model::purpose;
+use model::standing;
+use model::status;
 ghost use mathlib.Core.Path.{_≡_};
 ghost use mathlib.Core.Bool.{cond};
 ghost use Prim.Native.Nat.{_<_};
@@ -19,12 +25,12 @@ fn standing_by(npac: bool, new: bool, old: bool) -> u8
     ensures { λ r. ⌜ (r ≡ cond npac 2 (cond new 0 (cond old 1 3))) × (r < 4) ⌝ }
 {
     if npac {
-        return 2;
+        return standing::NPAC;
     }
     if new {
-        return 0;
+        return standing::NEW;
     }
-    if old { 1 } else { 3 }
+    if old { standing::OLD } else { standing::OTHER }
 }
 
 // 0 the new side, 1 the old side, 2 the NPAC, 3 any other sender.
@@ -42,20 +48,28 @@ pub fn standing_of(e: Event, v: Version) -> u8
 pub fn new_in(e: Event) -> u8
     ensures { λ r. ⌜ r ≡ newIn e ⌝ }
 {
-    if e.kind == 1 { e.sender } else { e.other }
+    if e.kind == kind::NEW_CREATES {
+        e.sender
+    } else {
+        e.other
+    }
 }
 
 pub fn old_in(e: Event) -> u8
     ensures { λ r. ⌜ r ≡ oldIn e ⌝ }
 {
-    if e.kind == 1 { e.other } else { e.sender }
+    if e.kind == kind::NEW_CREATES {
+        e.other
+    } else {
+        e.sender
+    }
 }
 
 fn new_joined(e: Event, s: NewSide) -> NewSide
     ensures { λ r. ⌜ r ≡ newJoined e s ⌝ }
 {
     let lrn = e.lrn;
-    if e.kind == 1 {
+    if e.kind == kind::NEW_CREATES {
         NewSide {
             provider: s.provider,
             created: true,
@@ -70,7 +84,7 @@ fn new_joined(e: Event, s: NewSide) -> NewSide
 fn old_joined(e: Event, s: OldSide) -> OldSide
     ensures { λ r. ⌜ r ≡ oldJoined e s ⌝ }
 {
-    if e.kind == 1 {
+    if e.kind == kind::NEW_CREATES {
         s
     } else {
         OldSide {
@@ -86,14 +100,18 @@ fn old_joined(e: Event, s: OldSide) -> OldSide
 fn status_by(s: OldSide, other: u8) -> u8
     ensures { λ r. ⌜ r ≡ statusBy s other ⌝ }
 {
-    if s.authorization == 2 { 1 } else { other }
+    if s.authorization == mark::NO {
+        status::CONFLICT
+    } else {
+        other
+    }
 }
 
 // Whether the side that creates has done so before.
 fn has_joined(e: Event, v: Version) -> bool
     ensures { λ r. ⌜ r ≡ cond (byNew e) (v .new .created) (v .old .created) ⌝ }
 {
-    if e.kind == 1 {
+    if e.kind == kind::NEW_CREATES {
         v.new.created
     } else {
         v.old.created
@@ -104,7 +122,7 @@ fn has_joined(e: Event, v: Version) -> bool
 pub fn fits(e: Event, v: Version) -> bool
     ensures { λ r. ⌜ r ≡ fits e v ⌝ }
 {
-    (v.status != 2)
+    (v.status != status::CANCEL_PENDING)
         & (v.new.provider == new_in(e))
         & (v.old.provider == old_in(e))
         & !has_joined(e, v)
@@ -114,7 +132,11 @@ pub fn fits(e: Event, v: Version) -> bool
 fn first_due(e: Event, v: Version) -> u32
     ensures { λ r. ⌜ r ≡ firstDue e v ⌝ }
 {
-    if e.kind == 1 { v.old.due } else { v.new.due }
+    if e.kind == kind::NEW_CREATES {
+        v.old.due
+    } else {
+        v.new.due
+    }
 }
 
 // Whether this create has the due date of the first.
@@ -156,7 +178,7 @@ fn old_absent(provider: u8) -> OldSide
     OldSide {
         provider,
         created: false,
-        authorization: 0,
+        authorization: mark::NONE,
         cause: 0,
         due: 0,
     }
@@ -171,15 +193,15 @@ pub fn fresh(e: Event, number: u16) -> Version
     let old = old_joined(e, old_absent(old_in(e)));
     Version {
         id: Id { tn, number },
-        status: status_by(old, 0),
+        status: status_by(old, status::PENDING),
         stamp: e.time,
         live: false,
         new,
         old,
-        canceller: 0,
+        canceller: canceller::NOBODY,
         window: false,
         cast: Broadcast {
-            purpose: 0,
+            purpose: purpose::NONE,
             start: 0,
             confirmed: 0,
             waiting: 0,
@@ -197,7 +219,11 @@ pub fn fresh(e: Event, number: u16) -> Version
 fn status_of(mark: u8) -> u8
     ensures { λ r. ⌜ r ≡ cond (eqb mark 2) 1 0 ⌝ }
 {
-    if mark == 2 { 1 } else { 0 }
+    if mark == mark::NO {
+        status::CONFLICT
+    } else {
+        status::PENDING
+    }
 }
 
 // 3 replaces LRN and due; 4 replaces its three values.
@@ -207,7 +233,7 @@ pub fn modified(e: Event, v: Version) -> Version
     let lrn = e.lrn;
     let mut w = v;
     w.stamp = e.time;
-    if e.kind == 3 {
+    if e.kind == kind::NEW_MODIFIES {
         let mut new = v.new;
         new.lrn = lrn;
         new.due = e.due;
@@ -240,15 +266,15 @@ pub fn cancelled(e: Event, v: Version) -> Version
 {
     if v.new.created & v.old.created {
         let side = standing_of(e, v);
-        return turned(e, v, 2, side + 1, v.window);
+        return turned(e, v, status::CANCEL_PENDING, side + 1, v.window);
     }
-    turned(e, v, 8, v.canceller, v.window)
+    turned(e, v, status::CANCELED, v.canceller, v.window)
 }
 
 pub fn acknowledged(e: Event, v: Version) -> Version
     ensures { λ r. ⌜ r ≡ acknowledged e v ⌝ }
 {
-    turned(e, v, 8, 0, v.window)
+    turned(e, v, status::CANCELED, canceller::NOBODY, v.window)
 }
 
 // An acknowledgement by the canceller itself.
@@ -263,10 +289,10 @@ pub fn resolved(e: Event, v: Version) -> Version
     ensures { λ r. ⌜ r ≡ resolved e v ⌝ }
 {
     let mut w = v;
-    w.status = 0;
+    w.status = status::PENDING;
     w.stamp = e.time;
     let mut old = v.old;
-    old.authorization = 1;
+    old.authorization = mark::YES;
     old.cause = 0;
     w.old = old;
     w
@@ -276,7 +302,7 @@ pub fn resolved(e: Event, v: Version) -> Version
 pub fn window_marks(v: Version) -> bool
     ensures { λ r. ⌜ r ≡ awaitsOld v ⌝ }
 {
-    (v.status == 0) & v.new.created
+    (v.status == status::PENDING) & v.new.created
 }
 
 pub fn window_spent(v: Version) -> bool
@@ -289,16 +315,20 @@ pub fn window_spent(v: Version) -> bool
 fn withdrawn_to(canceller: u8) -> u8
     ensures { λ r. ⌜ r ≡ cond (eqb canceller 1) 8 1 ⌝ }
 {
-    if canceller == 1 { 8 } else { 1 }
+    if canceller == canceller::NEW {
+        status::CANCELED
+    } else {
+        status::CONFLICT
+    }
 }
 
 pub fn window_turned(e: Event, v: Version) -> Version
     ensures { λ r. ⌜ r ≡ windowTurned e v ⌝ }
 {
-    if v.status == 2 {
-        return turned(e, v, withdrawn_to(v.canceller), 0, v.window);
+    if v.status == status::CANCEL_PENDING {
+        return turned(e, v, withdrawn_to(v.canceller), canceller::NOBODY, v.window);
     }
-    turned(e, v, 8, v.canceller, v.window)
+    turned(e, v, status::CANCELED, v.canceller, v.window)
 }
 
 pub fn window_marked(e: Event, v: Version) -> Version
