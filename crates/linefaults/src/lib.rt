@@ -5,6 +5,7 @@ use books::Names;
 use faults::Fault;
 use faults::Found;
 use model::Version;
+use model::status;
 ghost use mathlib.Core.Path.{_≡_};
 ghost use mathlib.Core.Bool.{true};
 ghost use mathlib.Core.List.{[], _∷_};
@@ -25,7 +26,7 @@ fn collide(n: u64, u: Version, v: Version) -> bool
         return u.live & v.live;
     }
     if n == 34 {
-        return (u.status == 3) & (v.status == 3);
+        return (u.status == status::SENDING) & (v.status == status::SENDING);
     }
     if n == 35 {
         return scan::join::is_worked(u.status) & scan::join::is_worked(v.status);

@@ -2,6 +2,7 @@
 // word of a row is read. [A3.5]
 use model::Id;
 use model::Tn;
+use model::status;
 use scan::join;
 use table::find;
 use words::ROW;
@@ -45,7 +46,7 @@ fn held_of(w: u64) -> Held
     let status = (w / 1024 % 16) as u8;
     Held {
         live: w / 512 % 2 == 1,
-        sends: status == 3,
+        sends: status == status::SENDING,
         worked: join::is_worked(status),
     }
 }

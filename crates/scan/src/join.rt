@@ -1,6 +1,7 @@
 // What a version must be to come next: the order, and what the versions of one number may have at most once.
 use model::Tn;
 use model::Version;
+use model::status;
 ghost use mathlib.Core.Path.{_≡_};
 ghost use mathlib.Core.Bool.{cond};
 ghost use Prim.Native.Nat.{_/_, _<_};
@@ -49,7 +50,7 @@ pub fn group_of(s: Seen) -> Group
 pub fn is_worked(s: u8) -> bool
     ensures { λ r. ⌜ r ≡ isWorked s ⌝ }
 {
-    (s == 0) | ((s == 1) | (s == 2))
+    (s == status::PENDING) | ((s == status::CONFLICT) | (s == status::CANCEL_PENDING))
 }
 
 fn bit(b: bool) -> u64
@@ -63,7 +64,7 @@ fn marks(v: Version) -> u64
     ensures { λ r. ⌜ (r ≡ marksOf (live v) (sends v) (worked v)) × (r < 8) ⌝ }
 {
     let live = bit(v.live);
-    let sends = bit(v.status == 3);
+    let sends = bit(v.status == status::SENDING);
     let worked = bit(is_worked(v.status));
     live + sends * 2 + worked * 4
 }

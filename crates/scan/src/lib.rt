@@ -2,6 +2,7 @@
 use crate::join::Group;
 use crate::join::Next;
 use crate::join::Seen;
+use model::limit;
 use words::ROW;
 use words::Words;
 ghost use mathlib.Core.Path.{_≡_};
@@ -114,7 +115,7 @@ fn whole(t: &[u8]) -> Scan
     ensures { λ r. ⌜ r ≡ scanOf (now (t .entry)) ⌝ }
 {
     if t.len() % ROW == 0 {
-        if t.len() <= 4096 * ROW {
+        if t.len() <= limit::ROWS * ROW {
             return over(t);
         }
     }

@@ -1,6 +1,8 @@
 // What a version's broadcast has.
 use crate::ranges;
 use model::Version;
+use model::purpose;
+use model::status;
 ghost use mathlib.Core.Path.{_≡_};
 ghost use Rattle.model.specs.Sound.{startFits, waitingFits, liveConfirmed};
 ghost use Rattle.sound.specs.Order.{timesFit, castFits};
@@ -8,19 +10,19 @@ ghost use Rattle.sound.specs.Order.{timesFit, castFits};
 pub fn start_fits(v: Version) -> bool
     ensures { λ r. ⌜ r ≡ startFits v ⌝ }
 {
-    (0 < v.cast.start) == (v.status == 3)
+    (0 < v.cast.start) == (v.status == status::SENDING)
 }
 
 pub fn waiting_fits(v: Version) -> bool
     ensures { λ r. ⌜ r ≡ waitingFits v ⌝ }
 {
-    (0 < v.cast.waiting) == (v.status == 3)
+    (0 < v.cast.waiting) == (v.status == status::SENDING)
 }
 
 pub fn live_confirmed(v: Version) -> bool
     ensures { λ r. ⌜ r ≡ liveConfirmed v ⌝ }
 {
-    !(v.live & (v.cast.purpose == 1))
+    !(v.live & (v.cast.purpose == purpose::ACTIVATE))
         | ((0 < v.cast.confirmed) | ((v.cast.waiting == 0) & (v.cast.failed == 0)))
 }
 

@@ -1,5 +1,6 @@
 // What a version's status, marks and purpose may be together: all clauses on them in one look.
 use model::Version;
+use model::status;
 ghost use mathlib.Core.Path.{_≡_};
 ghost use mathlib.Core.Bool.{cond};
 ghost use Prim.Native.Nat.{_≤_};
@@ -13,15 +14,15 @@ fn places(status: u8) -> u64
     ensures { λ r. ⌜ r ≡ getD fitBits status 0 ⌝ }
 {
     match status {
-        0 => 0xe,
-        1 => 0xa,
-        2 => 0x8,
-        3 => 0xc0c0_cc00,
-        4 => 0xc00,
-        5 => 0xc000,
-        6 => 0xc0c0_c000,
-        7 => 0xc,
-        8 => 0xe,
+        status::PENDING => 0xe,
+        status::CONFLICT => 0xa,
+        status::CANCEL_PENDING => 0x8,
+        status::SENDING => 0xc0c0_cc00,
+        status::FAILED => 0xc00,
+        status::PARTIAL_FAILURE => 0xc000,
+        status::ACTIVE => 0xc0c0_c000,
+        status::OLD => 0xc,
+        status::CANCELED => 0xe,
         _ => 0,
     }
 }

@@ -1,5 +1,9 @@
 // Values in their ranges.
 use model::Version;
+use model::canceller;
+use model::limit;
+use model::purpose;
+use model::status;
 ghost use mathlib.Core.Path.{_≡_};
 ghost use Rattle.model.specs.Numbers.{tenDigits, isProvider, isTime, isNumber};
 ghost use Rattle.sound.specs.Order.{outlineFits};
@@ -20,13 +24,13 @@ pub fn is_time(t: u32) -> bool
 pub fn is_number(n: u16) -> bool
     ensures { λ r. ⌜ r ≡ isNumber n ⌝ }
 {
-    (1 <= n) & (n <= 65535)
+    (1 <= n) & (n <= limit::NUMBER)
 }
 
 pub fn is_provider(p: u8) -> bool
     ensures { λ r. ⌜ r ≡ isProvider p ⌝ }
 {
-    (1 <= p) & (p <= 63)
+    (1 <= p) & (p <= limit::PROVIDERS)
 }
 
 // All but the times, the sets and the retries.
@@ -35,9 +39,9 @@ pub fn outline_fits(v: Version) -> bool
 {
     ten_digits(v.id.tn.0)
         & is_number(v.id.number)
-        & (v.status <= 8)
+        & (v.status <= status::LAST)
         & is_provider(v.new.provider)
         & is_provider(v.old.provider)
-        & (v.canceller <= 2)
-        & (v.cast.purpose <= 3)
+        & (v.canceller <= canceller::LAST)
+        & (v.cast.purpose <= purpose::LAST)
 }

@@ -4,6 +4,10 @@ use crate::ranges;
 use model::NewSide;
 use model::OldSide;
 use model::Version;
+use model::canceller;
+use model::limit;
+use model::mark;
+use model::status;
 ghost use mathlib.Core.Path.{_≡_};
 ghost use mathlib.Core.Bool.{_&&_};
 ghost use Rattle.model.specs.Sound.{sidesDiffer, newWhole, oldWhole, causeFits, cancellerFits};
@@ -25,19 +29,21 @@ pub fn new_whole(s: NewSide) -> bool
 pub fn old_whole(s: OldSide) -> bool
     ensures { λ r. ⌜ r ≡ oldWhole s ⌝ }
 {
-    (s.created == (s.due != 0)) & (s.created == (s.authorization != 0)) & (s.authorization <= 2)
+    (s.created == (s.due != 0))
+        & (s.created == (s.authorization != mark::NONE))
+        & (s.authorization <= mark::NO)
 }
 
 pub fn cause_fits(s: OldSide) -> bool
     ensures { λ r. ⌜ r ≡ causeFits s ⌝ }
 {
-    ((s.authorization == 2) == (s.cause != 0)) & (s.cause <= 99)
+    ((s.authorization == mark::NO) == (s.cause != 0)) & (s.cause <= limit::CAUSE)
 }
 
 pub fn canceller_fits(v: Version) -> bool
     ensures { λ r. ⌜ r ≡ cancellerFits v ⌝ }
 {
-    (0 < v.canceller) == (v.status == 2)
+    (canceller::NOBODY < v.canceller) == (v.status == status::CANCEL_PENDING)
 }
 
 // All of them.

@@ -2,6 +2,7 @@
 use crate::find;
 use model::Tn;
 use model::Version;
+use model::status;
 use scan::join;
 ghost use mathlib.Core.Path.{_≡_};
 ghost use mathlib.Core.Bool.{cond};
@@ -114,8 +115,8 @@ fn over(t: &[u8], n: usize, number: u16, from: usize, to: usize, p: Pass) -> Pas
         let other = !own;
         newest = larger16(v.id.number, newest);
         stamp = larger32(v.stamp, stamp);
-        sends = (v.status == 3) | sends;
-        blocked = (other & (v.status == 3)) | blocked;
+        sends = (v.status == status::SENDING) | sends;
+        blocked = (other & (v.status == status::SENDING)) | blocked;
         former = first(other & v.live, i, former);
         live = first(v.live, i, live);
         worked = first(join::is_worked(v.status), i, worked);

@@ -1,6 +1,7 @@
 // The clauses that tie a row to those before it.
 use faults::Found;
 use model::Version;
+use model::status;
 use words::Words;
 ghost use mathlib.Core.Path.{_≡_};
 ghost use mathlib.Core.List.{[], _∷_};
@@ -61,7 +62,7 @@ fn has(n: u64, v: Version) -> bool
         return v.live;
     }
     if n == 30 {
-        return v.status == 3;
+        return v.status == status::SENDING;
     }
     scan::join::is_worked(v.status)
 }

@@ -1,6 +1,9 @@
 // The clauses on a version by itself, in the order of their numbers: each group finds its first that does not hold, or leaves it to the rest.
 use faults::Found;
 use model::Version;
+use model::canceller;
+use model::purpose;
+use model::status;
 ghost use mathlib.Core.Path.{_≡_};
 ghost use Rattle.faults.specs.Faults.{firstBroken};
 ghost use Rattle.model.specs.declared.Broadcast.{Broadcast};
@@ -18,7 +21,7 @@ fn rest_in_range(c: Broadcast) -> bool
     ensures { λ r. ⌜ r ≡ restInRange c ⌝ }
 {
     let retries = c.retries;
-    (c.purpose <= 3) & ((c.start as u64) < 4294967296) & sets::retries_in_range(retries)
+    (c.purpose <= purpose::LAST) & ((c.start as u64) < 4294967296) & sets::retries_in_range(retries)
 }
 
 // Clauses 5 to 13.
@@ -28,11 +31,11 @@ pub fn ranges(v: Version, rest: Found) -> Found
     let cast = v.cast;
     let f = faults::unless(rest_in_range(cast), 13, 0, rest);
     let f = faults::unless(sets_in_range(cast), 12, 0, f);
-    let f = faults::unless(v.canceller <= 2, 11, 0, f);
+    let f = faults::unless(v.canceller <= canceller::LAST, 11, 0, f);
     let f = faults::unless(sound::ranges::is_provider(v.old.provider), 10, 0, f);
     let f = faults::unless(sound::ranges::is_provider(v.new.provider), 9, 0, f);
     let f = faults::unless(sound::ranges::is_time(v.stamp), 8, 0, f);
-    let f = faults::unless(v.status <= 8, 7, 0, f);
+    let f = faults::unless(v.status <= status::LAST, 7, 0, f);
     let f = faults::unless(sound::ranges::is_number(v.id.number), 6, 0, f);
     faults::unless(sound::ranges::ten_digits(v.id.tn.0), 5, 0, f)
 }
@@ -50,8 +53,11 @@ fn sides_needed(v: Version) -> bool
     let s = v.status;
     let new = v.new.created;
     let old = v.old.created;
-    let purposed = (s == 3) | ((s == 4) | ((s == 5) | (s == 6)));
-    (!(s == 1) | old) & (!(s == 2) | (new & old)) & (!(purposed | (s == 7)) | new)
+    let purposed = (s == status::SENDING)
+        | ((s == status::FAILED) | ((s == status::PARTIAL_FAILURE) | (s == status::ACTIVE)));
+    (!(s == status::CONFLICT) | old)
+        & (!(s == status::CANCEL_PENDING) | (new & old))
+        & (!(purposed | (s == status::OLD)) | new)
 }
 
 // Clauses 14 to 20.
@@ -74,8 +80,11 @@ fn purpose_fits(v: Version) -> bool
     ensures { λ r. ⌜ r ≡ purposeFits v ⌝ }
 {
     let s = v.status;
-    let purposed = (s == 3) | ((s == 4) | ((s == 5) | (s == 6)));
-    ((0 < v.cast.purpose) == purposed) & (!((s == 4) | (s == 5)) | (v.cast.purpose == 1))
+    let purposed = (s == status::SENDING)
+        | ((s == status::FAILED) | ((s == status::PARTIAL_FAILURE) | (s == status::ACTIVE)));
+    ((purpose::NONE < v.cast.purpose) == purposed)
+        & (!((s == status::FAILED) | (s == status::PARTIAL_FAILURE))
+            | (v.cast.purpose == purpose::ACTIVATE))
 }
 
 // Live in 5 and 6, in 3 unless the purpose is activate (then perhaps), nowhere else.
@@ -83,11 +92,11 @@ fn live_fits(v: Version) -> bool
     ensures { λ r. ⌜ r ≡ liveFits v ⌝ }
 {
     let s = v.status;
-    let either = v.live | (v.cast.purpose == 1);
-    if s == 3 {
+    let either = v.live | (v.cast.purpose == purpose::ACTIVATE);
+    if s == status::SENDING {
         return either;
     }
-    v.live == ((s == 5) | (s == 6))
+    v.live == ((s == status::PARTIAL_FAILURE) | (s == status::ACTIVE))
 }
 
 // Clauses 21 to 27.

@@ -3,6 +3,7 @@
 use faults::Fault;
 use faults::Found;
 use model::Version;
+use model::limit;
 use words::ROW;
 use words::Words;
 ghost use mathlib.Core.Path.{_≡_};
@@ -59,7 +60,7 @@ pub fn fault(t: &[u8]) -> Fault
     if t.len() % ROW != 0 {
         return faults::whole(1);
     }
-    if t.len() > 4096 * ROW {
+    if t.len() > limit::ROWS * ROW {
         return faults::whole(2);
     }
     over(t)
