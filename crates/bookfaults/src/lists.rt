@@ -2,6 +2,7 @@
 use faults::Fault;
 use faults::Found;
 use model::Marks;
+use model::limit;
 ghost use mathlib.Core.Path.{_≡_};
 ghost use Prim.Native.Nat.{_<_, _≤_};
 ghost use lib.ListN.{length};
@@ -14,6 +15,9 @@ pub const CODES: u64 = 5;
 pub const FILTERS: u64 = 9;
 
 pub const PAIRS: u64 = 13;
+
+// The largest provider, as a word.
+const PROVIDERS: u64 = limit::PROVIDERS as u64;
 
 fn place(list: u64, books: &[u8], i: usize) -> u64
     requires { ⌜ (length (now books) ≡ bookBytes) × (i < placesOf list) ⌝ }
@@ -42,11 +46,11 @@ fn last(list: u64, books: &[u8], i: usize) -> u64
 fn here(marks: Marks, p: u64) -> bool
     ensures { λ r. ⌜ r ≡ here marks p ⌝ }
 {
-    if 63 < p {
+    if PROVIDERS < p {
         return false;
     }
     let listed = systems::has(marks.present, p as u8);
-    (1 <= p) & (p <= 63) & listed
+    (1 <= p) & (p <= PROVIDERS) & listed
 }
 
 // Clauses 5 to 8, of a code's place i.

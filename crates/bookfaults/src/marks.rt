@@ -1,11 +1,15 @@
 // The provider list, byte after byte. [B1]
 use faults::Fault;
 use faults::Found;
+use model::limit;
 ghost use mathlib.Core.Path.{_≡_};
 ghost use Prim.Native.Nat.{_<_};
 ghost use lib.ListN.{length};
 ghost use Rattle.faults.specs.Faults.{firstFault};
 ghost use Rattle.bookfaults.specs.Clauses.{markFound, providersFault};
+
+// The largest provider, as a number of bytes.
+const PROVIDERS: usize = limit::PROVIDERS as usize;
 
 // Clause 2, of byte i.
 fn found(p: &[u8], i: usize) -> Found
@@ -40,7 +44,7 @@ fn over(p: &[u8]) -> Fault
 pub fn fault(p: &[u8]) -> Fault
     ensures { λ r. ⌜ r ≡ providersFault (now (p .entry)) ⌝ }
 {
-    if 63 < p.len() {
+    if PROVIDERS < p.len() {
         return faults::whole(1);
     }
     over(p)

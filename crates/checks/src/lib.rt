@@ -1,4 +1,5 @@
 // What is lent to a call, checked: before any event, and for those who only ask.
+use model::limit;
 use outcomes::Answer;
 use providers::Listed;
 use scan::Soundness;
@@ -13,7 +14,7 @@ ghost use Rattle.checks.specs.Checks.{fitting, soundnessLent, checkedTab
 pub fn fit(most: u8, places: usize) -> bool
     ensures { λ r. ⌜ r ≡ fitting most places ⌝ }
 {
-    (most <= 7) & (64 <= places)
+    (most <= limit::RETRIES) & (limit::PLACES <= places)
 }
 
 // A table that its scan finds sound, with n used rows: its lines need sound books.

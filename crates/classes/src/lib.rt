@@ -1,6 +1,7 @@
 // Each provider's class for a TN, as its number in a byte: for those who ask why a system was skipped. [A8.1]
 use model::Class;
 use model::Tn;
+use model::limit;
 use providers::Listed;
 use selection::Classes;
 ghost use mathlib.Core.Path.{_≡_};
@@ -14,7 +15,7 @@ ghost use Rattle.selection.specs.Classes.{classIn};
 ghost use Rattle.classes.specs.Classes.{numbersOf, Classified};
 
 // As many places as providers.
-const PLACES: usize = 63;
+const PLACES: usize = limit::PROVIDERS as usize;
 
 // The number of a class. [H7]
 fn number(c: Class) -> u8

@@ -5,6 +5,10 @@ ghost use lib.Dec.{eqb};
 ghost use Rattle.model.specs.Numbers.{isCode};
 ghost use Rattle.entries.specs.Good.{goodCode, goodFilter, goodRow};
 use model::Marks;
+use model::limit;
+
+// The largest provider, as a word.
+const PROVIDERS: u64 = limit::PROVIDERS as u64;
 
 // Six digits, the first and the fourth of them 2 to 9: the last three say 200 or more.
 pub fn is_code(c: u64) -> bool
@@ -21,7 +25,7 @@ fn good_code(marks: Marks, last: u64, w: u64) -> bool
     let owner = (w % 64) as u8;
     let known = is_code(code);
     let here = systems::has(marks.present, owner);
-    (last / 64 < code) & (known & ((1 <= owner) & (owner <= 63)) & here)
+    (last / 64 < code) & (known & ((1 <= owner) & (owner <= limit::PROVIDERS)) & here)
 }
 
 // A filter's place, behind the place `last`. [B3]
@@ -29,12 +33,12 @@ fn good_filter(marks: Marks, last: u64, w: u64) -> bool
     ensures { λ r. ⌜ r ≡ goodFilter marks last w ⌝ }
 {
     let provider = w / 1048576;
-    if 63 < provider {
+    if PROVIDERS < provider {
         return false;
     }
     let known = is_code(w % 1048576);
     let here = systems::has(marks.present, provider as u8);
-    (last < w) & ((1 <= provider) & (provider <= 63) & here & known)
+    (last < w) & ((1 <= provider) & (provider <= PROVIDERS) & here & known)
 }
 
 // A filter's place, or a code's.

@@ -7,6 +7,10 @@ ghost use Rattle.providers.specs.Providers.{listed, entryOf};
 ghost use Rattle.providers.specs.Growth.{markOf, addsTo, grownBy};
 use model::Marks;
 use model::Provider;
+use model::limit;
+
+// The largest provider, as a number of places.
+const PROVIDERS: usize = limit::PROVIDERS as usize;
 
 // Whether the list is sound, and its marks as sets; an unsound list's are empty.
 pub struct Listed {
@@ -29,7 +33,7 @@ fn mark(s: u64, on: bool, i: usize) -> u64
 fn adds(sound: bool, x: Provider, i: usize) -> bool
     ensures { λ r. ⌜ r ≡ addsTo sound x i ⌝ }
 {
-    sound & (i < 63) & (x.present | !x.local)
+    sound & (i < PROVIDERS) & (x.present | !x.local)
 }
 
 // l with what the record at place i says.

@@ -8,6 +8,7 @@ ghost use Rattle.selection.specs.Pass.{smallerOf, largerOf, comesBefore,
 ghost use Rattle.selection.specs.Classes.{classIn, Classed};
 use model::Class;
 use model::Marks;
+use model::limit;
 
 // A filter's place is a number: its provider times this, and its code.
 const CODES: u64 = 1048576;
@@ -84,7 +85,7 @@ fn one_pass(marks: Marks, books: &[u8], code: u64) -> Pass
     let mut looks: u64 = 0;
     let mut provider: u8 = 0;
     let mut i: usize = 0;
-    'providers: while provider < 63 {
+    'providers: while provider < limit::PROVIDERS {
         provider += 1;
         if !systems::has(marks.local, provider) {
             continue 'providers;
