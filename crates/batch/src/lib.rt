@@ -1,6 +1,9 @@
 // Many event records on one table: its soundness is checked once, and each event is then a step.
+use model::limit;
 use providers::Listed;
+use record::RECORD;
 use scan::Soundness;
+use tray::MESSAGE_SIZE;
 ghost use mathlib.Core.Path.{_≡_};
 ghost use mathlib.Core.Bool.{true};
 ghost use mathlib.Core.List.{map};
@@ -13,12 +16,6 @@ ghost use Rattle.tray.specs.Tray.{messageSize, placesIn};
 ghost use Rattle.checks.specs.Checks.{fitting, soundnessLent};
 ghost use Rattle.packing.specs.Layout.{RECORD};
 ghost use Rattle.batch.specs.Batch.{recordsIn, Stand, resultAt, steps, begin, refusal, leaves, refusedWith, Went, Turned};
-
-const RECORD: usize = 24;
-
-const MESSAGE: usize = 24;
-
-const PLACES: usize = 64;
 
 // The outcome of the whole, how many events were done, and how many messages stand in the tray.
 #[repr(C)]
@@ -51,7 +48,7 @@ fn one(
     requires { ⌜ (soundnessLent l (now books) (now table) ≡ Sound n) × (fitting most (placesIn (drop (messageSize * messages) (now tray))) ≡ true) × (2 * i + 2 ≤ length (now outs)) × (messageSize * messages ≤ length (now tray)) ⌝ }
     ensures { λ r. ⌜ ((s : Stand) → s ≡ record { table = now (table .entry); tray = now (tray .entry); outs = now (outs .entry); events = i; messages = messages } → Turned l (now (books .entry)) (resultAt l (now (books .entry)) most (now (event .entry)) s) s (record { table = now (table .exit); tray = now (tray .exit); outs = now (outs .exit); events = suc i; messages = r .messages }) (r .used)) ⌝ }
 {
-    let at = MESSAGE * messages;
+    let at = MESSAGE_SIZE * messages;
     let a = engine::step::on_fitting(table, n, l, books, most, event, &mut tray[at..]);
     outcomes::note(outs, i, a);
     let used = table::count::used(table, n);
@@ -81,7 +78,7 @@ fn all(
     let mut messages: usize = 0;
     let mut i: usize = 0;
     while i < count {
-        if (tray.len() - MESSAGE * messages) / MESSAGE < PLACES {
+        if (tray.len() - MESSAGE_SIZE * messages) / MESSAGE_SIZE < limit::PLACES {
             return Ran {
                 outcome: 0,
                 events: i as u64,

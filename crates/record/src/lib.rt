@@ -5,11 +5,14 @@ use kinds::well_formed;
 use model::Event;
 use model::Reading;
 
+// The size of a record in bytes. [E1]
+pub const RECORD: usize = 24;
+
 // The fields of a record of 24 bytes that is well formed.
 pub fn read(s: &[u8]) -> Reading
     ensures { λ r. ⌜ r ≡ readEvent (now (s .entry)) ⌝ }
 {
-    if s.len() != 24 {
+    if s.len() != RECORD {
         return Reading::Malformed;
     }
     let first = octets::u64_at(s, 0);
@@ -30,7 +33,7 @@ pub fn read(s: &[u8]) -> Reading
 pub fn write(e: Event, out: &mut [u8]) -> u8
     ensures { λ r. ⌜ Written e (now (out .entry)) (now (out .exit)) r ⌝ }
 {
-    if out.len() != 24 {
+    if out.len() != RECORD {
         return 2;
     }
     if well_formed(e) {

@@ -5,6 +5,7 @@ use model::Event;
 use model::Lrn;
 use model::Reading;
 use model::Tn;
+use record::RECORD;
 
 fn print_number(n: u64) {
     io::write_all(STDOUT_FILENO, b" ");
@@ -58,7 +59,7 @@ fn read_case(s: &[u8]) {
         Reading::Record(e) => {
             print_number(0);
             print_event(e);
-            let mut back = [0u8; 24];
+            let mut back = [0u8; RECORD];
             let said = record::write(e, &mut back);
             print_number(said as u64);
             print_bytes(&back);

@@ -11,8 +11,10 @@ use model::Id;
 use model::Lrn;
 use model::Message;
 use model::Tn;
+use model::limit;
 
-const MESSAGE_SIZE: usize = 24;
+// The size of a message in bytes.
+pub const MESSAGE_SIZE: usize = 24;
 
 // How many whole places a tray has.
 pub fn places(tray: &[u8]) -> usize
@@ -120,7 +122,7 @@ pub fn put_downloads(tray: &mut [u8], from: usize, m: Message, set: u64) -> usiz
 {
     let mut at = from;
     let mut provider: u8 = 0;
-    'providers: while provider < 63 {
+    'providers: while provider < limit::PROVIDERS {
         provider += 1;
         if !systems::has(set, provider) {
             continue 'providers;
