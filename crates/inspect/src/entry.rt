@@ -1,6 +1,10 @@
 // A place of provider list or books at fault, in words: "filter 1 (5, 303555): provider 5 is absent".
 use crate::texts;
 use faults::Fault;
+use model::limit;
+
+// The largest provider, as a word.
+const PROVIDERS: u64 = limit::PROVIDERS as u64;
 
 // The entry as two numbers: a code and its owner, a provider and a code, two codes; of the provider list the byte.
 struct Entry {
@@ -87,7 +91,7 @@ fn about(f: Fault, e: Entry) -> u64 {
 
 // The text of a clause: a number that no provider has is not absent.
 fn text(clause: u64, about: u64) -> u64 {
-    if clause == 10 && (about == 0 || about > 63) {
+    if clause == 10 && (about == 0 || about > PROVIDERS) {
         return texts::NO_PROVIDER;
     }
     if clause == 7 && about == 0 {

@@ -6,6 +6,7 @@ mod version;
 
 use faults::Fault;
 use scan::Soundness;
+use words::ROW;
 ghost use mathlib.Core.Path.{_≡_};
 ghost use lib.ListN.{length};
 
@@ -18,7 +19,7 @@ fn free_rows() -> [u8; 327681]
 
 fn say_sound(table: &[u8]) {
     let verdict = scan::verdict(table);
-    let rows = (table.len() / 80) as u64;
+    let rows = (table.len() / ROW) as u64;
     match verdict {
         Soundness::Sound { used } => {
             texts::put_line(b"sound: # of # rows used", 0, used as u64, rows);

@@ -1,12 +1,16 @@
 // The calls for C: on bytes and numbers, each with a promise for every input. include/lupinenblatt.h tells them to C. [F4]
 ghost use Rattle.packing.specs.Layout.{readEvent, Written};
 ghost use Rattle.fields.specs.Calls.{event, Handed};
+use model::limit;
 
 pub mod fault;
 pub mod run;
 pub mod selection;
 pub mod step;
 pub mod version;
+
+// R at most, as a word.
+const MOST_RETRIES: u64 = limit::RETRIES as u64;
 
 // Reads a record: its ten fields to exactly ten places, and 0; 2 where it is malformed or the places are not ten, and nothing is written.
 #[no_mangle]

@@ -1,10 +1,9 @@
 // Many events at once.
+use crate::MOST_RETRIES;
 use batch::Ran;
 ghost use mathlib.Core.List.{map};
 ghost use Rattle.providers.specs.Providers.{listed, entryOf};
 ghost use Rattle.batch.specs.Batch.{refusal, leaves, Went};
-
-const MOST_RETRIES: u64 = 7;
 
 // Event records on a table, as many steps as repeated calls would make.
 #[no_mangle]

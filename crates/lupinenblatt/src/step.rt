@@ -1,4 +1,5 @@
 // The step, and the checks of what it is lent.
+use crate::MOST_RETRIES;
 use outcomes::Answer;
 ghost use mathlib.Core.Path.{_≡_};
 ghost use mathlib.Core.List.{map};
@@ -7,8 +8,6 @@ ghost use Rattle.engine.specs.Event.{Did};
 ghost use Rattle.engine.specs.Step.{resultOf};
 ghost use Rattle.checks.specs.Checks.{soundnessLent, checkedTable, checkedBooks};
 ghost use Rattle.lupinenblatt.specs.Default.{defaultRetries};
-
-const MOST_RETRIES: u64 = 7;
 
 const DEFAULT_RETRIES: u8 = 3;
 

@@ -7,21 +7,13 @@ use crate::texts;
 use libc::STDERR_FILENO;
 use model::Event;
 use model::Reading;
+use model::kind;
+use record::RECORD;
 
-const RECORD: usize = 24;
 // So many records, and so many bytes, are read at once.
 const RECORDS: u64 = 1024;
 
 const CHUNK: usize = 24576;
-
-// The kinds that start a broadcast.
-const ACTIVATE: u8 = 5;
-
-const MODIFY_ACTIVE: u8 = 9;
-
-const DISCONNECT: u8 = 10;
-
-pub const RESEND: u8 = 14;
 
 fn say_kind(place: u64, kind: u8) {
     files::put_name(EVENTS);
@@ -37,7 +29,8 @@ fn say_kind(place: u64, kind: u8) {
 fn of_record(place: u64, e: Event) -> Question {
     let kind = e.kind;
     match kind {
-        ACTIVATE | MODIFY_ACTIVE | DISCONNECT | RESEND => Question {
+        // The kinds that start a broadcast.
+        kind::ACTIVATE | kind::MODIFY_ACTIVE | kind::DISCONNECT | kind::RESEND => Question {
             asked: true,
             kind,
             version: e.version,

@@ -5,10 +5,14 @@ mod question;
 mod texts;
 
 use model::Tn;
+use model::limit;
 use question::BOOKS;
 use question::PROVIDERS;
 use question::Question;
 use question::TN;
+
+// Providers at most, and so classes, and bytes of a provider list.
+const MOST_PROVIDERS: usize = limit::PROVIDERS as usize;
 
 // The code that a code is paired with, or 0.
 fn partner(books: &[u8], code: u64) -> u64 {
@@ -19,22 +23,22 @@ fn partner(books: &[u8], code: u64) -> u64 {
 }
 
 // All providers.
-fn say_classes(classes: &[u8; 63]) {
+fn say_classes(classes: &[u8; MOST_PROVIDERS]) {
     let mut i: usize = 0;
-    while i < 63 {
+    while i < MOST_PROVIDERS {
         texts::say_provider(i as u64 + 1, classes[i]);
         i += 1;
     }
 }
 
-fn say(q: Question, books: &[u8], classes: &[u8; 63]) {
+fn say(q: Question, books: &[u8], classes: &[u8; MOST_PROVIDERS]) {
     let code = books::code_of(Tn(q.tn));
     texts::say_question(q, code, partner(books, code));
     say_classes(classes);
 }
 
 fn answer(q: Question, providers: &[u8], books: &[u8]) {
-    let mut classes = [0u8; 63];
+    let mut classes = [0u8; MOST_PROVIDERS];
     let said = classes::write(providers, books, q.tn, &mut classes);
     match said {
         0 => say(q, books, &classes),
@@ -48,14 +52,14 @@ fn answer(q: Question, providers: &[u8], books: &[u8]) {
 
 // Reads the two files, and goes on if both were read.
 fn run() {
-    let mut providers = [0u8; 63];
-    let mut books = [0u8; 8712];
+    let mut providers = [0u8; MOST_PROVIDERS];
+    let mut books = [0u8; books::BOOK_BYTES];
     let p = files::load(PROVIDERS, &mut providers);
     let b = files::load(BOOKS, &mut books);
-    if p > 63 {
+    if p > MOST_PROVIDERS {
         return;
     }
-    if b > 8712 {
+    if b > books::BOOK_BYTES {
         return;
     }
     let q = question::ask();

@@ -1,7 +1,7 @@
 // The words: of a provider's class, of an event's kind, and of what was asked.
-use crate::event::RESEND;
 use crate::question::Question;
 use libc::STDOUT_FILENO;
+use model::kind;
 
 fn put(text: &[u8]) {
     io::write_all(STDOUT_FILENO, text);
@@ -32,20 +32,20 @@ pub fn say_provider(provider: u64, class: u8) {
 // The header's words for a kind, to a stream.
 pub fn put_kind(fd: i32, kind: u8) {
     match kind {
-        1 => io::write_all(fd, b"new side creates"),
-        2 => io::write_all(fd, b"old side creates"),
-        3 => io::write_all(fd, b"new side modifies"),
-        4 => io::write_all(fd, b"old side modifies"),
-        5 => io::write_all(fd, b"activate"),
-        6 => io::write_all(fd, b"cancel"),
-        7 => io::write_all(fd, b"acknowledge cancel"),
-        8 => io::write_all(fd, b"resolve conflict"),
-        9 => io::write_all(fd, b"modify active"),
-        10 => io::write_all(fd, b"disconnect"),
-        11 => io::write_all(fd, b"reply"),
-        12 => io::write_all(fd, b"silence"),
-        13 => io::write_all(fd, b"window ran out"),
-        14 => io::write_all(fd, b"resend"),
+        kind::NEW_CREATES => io::write_all(fd, b"new side creates"),
+        kind::OLD_CREATES => io::write_all(fd, b"old side creates"),
+        kind::NEW_MODIFIES => io::write_all(fd, b"new side modifies"),
+        kind::OLD_MODIFIES => io::write_all(fd, b"old side modifies"),
+        kind::ACTIVATE => io::write_all(fd, b"activate"),
+        kind::CANCEL => io::write_all(fd, b"cancel"),
+        kind::ACKNOWLEDGE_CANCEL => io::write_all(fd, b"acknowledge cancel"),
+        kind::RESOLVE_CONFLICT => io::write_all(fd, b"resolve conflict"),
+        kind::MODIFY_ACTIVE => io::write_all(fd, b"modify active"),
+        kind::DISCONNECT => io::write_all(fd, b"disconnect"),
+        kind::REPLY => io::write_all(fd, b"reply"),
+        kind::SILENCE => io::write_all(fd, b"silence"),
+        kind::WINDOW_RAN_OUT => io::write_all(fd, b"window ran out"),
+        kind::RESEND => io::write_all(fd, b"resend"),
         _ => io::write_all(fd, b"purge"),
     }
     ;
@@ -70,7 +70,7 @@ pub fn say_question(q: Question, code: u64, partner: u64) {
         put_with(b", paired with ", partner);
     }
     put(b"\n");
-    if q.kind == RESEND {
+    if q.kind == kind::RESEND {
         put(b"a resend asks, of the selected, only those whose download failed\n");
     }
 }

@@ -7,12 +7,11 @@ use crate::names::MESSAGES;
 use crate::names::OUTCOMES;
 use crate::summary;
 use batch::Ran;
+use record::RECORD;
+use tray::MESSAGE_SIZE;
 ghost use mathlib.Core.Path.{_≡_};
 ghost use lib.ListN.{length};
 
-const RECORD: usize = 24;
-
-const MESSAGE: usize = 24;
 // The messages that find room: 64 for each of the 1,024 records that are read at once.
 const TRAY_PLACES: u64 = 65536;
 // So many events and again so many: a line of progress.
@@ -50,7 +49,7 @@ fn put_messages(fd: i32, tray: &[u8], count: u64) -> bool {
     if count > TRAY_PLACES {
         return false;
     }
-    let n = count as usize * MESSAGE;
+    let n = count as usize * MESSAGE_SIZE;
     if n > tray.len() {
         return false;
     }

@@ -9,7 +9,8 @@ use libc::SEEK_SET;
 // No number of bytes that a file has.
 pub const NONE: usize = 18_446_744_073_709_551_615;
 
-const RECORD: u64 = 24;
+// The size of a record, as a word.
+const RECORD: u64 = record::RECORD as u64;
 // More events than a file has.
 const MOST_EVENTS: u64 = 384_307_168_202_282_325;
 

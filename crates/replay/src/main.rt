@@ -6,8 +6,10 @@ mod names;
 mod parts;
 mod summary;
 
+use books::BOOK_BYTES;
 use events::Streams;
 use libc::SEEK_END;
+use model::limit;
 use names::BOOKS;
 use names::CHECK;
 use names::EVENTS;
@@ -18,14 +20,12 @@ use names::RETRIES;
 use names::TABLE;
 use parts::Outputs;
 use scan::Soundness;
+use words::ROW;
 ghost use mathlib.Core.Path.{_≡_};
 ghost use lib.ListN.{length};
 
-const MOST_RETRIES: u8 = 7;
-
-const ROW: usize = 80;
-
-const BOOK_BYTES: usize = 8712;
+// Providers at most, and so bytes of a provider list.
+const MOST_PROVIDERS: usize = limit::PROVIDERS as usize;
 
 // R, or more than 7 where the argument is none.
 fn retries() -> u8 {
@@ -166,18 +166,18 @@ fn free_rows() -> [u8; 327680]
 // Reads what is lent to each event, and goes on if all of it was read.
 fn run(most: u8, from: u64) {
     let mut table = free_rows();
-    let mut providers = [0u8; 63];
-    let mut books = [0u8; 8712];
+    let mut providers = [0u8; MOST_PROVIDERS];
+    let mut books = [0u8; BOOK_BYTES];
     let t = files::load(TABLE, &mut table);
     let p = files::load(PROVIDERS, &mut providers);
     let b = files::load(BOOKS, &mut books);
     if t > 327680 {
         return;
     }
-    if p > 63 {
+    if p > MOST_PROVIDERS {
         return;
     }
-    if b > 8712 {
+    if b > BOOK_BYTES {
         return;
     }
     begin(&mut table[..t], &providers[..p], &books[..b], most, from);
@@ -186,7 +186,7 @@ fn run(most: u8, from: u64) {
 // A replay, where R is one and the outputs are files of their own.
 fn run_from(from: u64) {
     let most = retries();
-    if most > MOST_RETRIES {
+    if most > limit::RETRIES {
         names::say_of(RETRIES, b"R is not 0 to 7");
         return;
     }

@@ -4,12 +4,11 @@ use libc::STDIN_FILENO;
 use libc::STDOUT_FILENO;
 use model::Provider;
 use model::Version;
+use words::ROW;
 
 const RETRIES: u8 = 0;
 
 const ROWS: usize = 256;
-
-const ROW: usize = 80;
 
 const RECORD: usize = 24;
 
