@@ -15,5 +15,6 @@ use Rattle.model.specs.declared.Broadcast.{Broadcast}
 pub few-used : (most : ℕ) (e : Event) (c : Broadcast) → most ≤ 7 → again most e c ≡ true → used (c .retries) (answering e) < 7
 unfolding again
 few-used most e c h q =
-    let l : used (c .retries) (answering e) < most = ltb-true _ _ (and-r (eqb (e .kind) 12) (ltb (used (c .retries) (answering e)) most) q) in
+    let l : used (c .retries) (answering e) < most =
+    ltb-true _ _ (and-r (eqb (e .kind) 12) (ltb (used (c .retries) (answering e)) most) q) in
     omega arith

@@ -1,20 +1,18 @@
 -- The loop over the records: what is left to do from here gives the whole.
 -- Assumes nothing.
-use mathlib.Core.Path.{_≡_, refl, sym, ap, ap₂, _∙_, subst}
+use mathlib.Core.Path.{_≡_, refl, sym, ap, _∙_, subst}
 use Prim.Native.Nat.{ℕ, suc, _+_, _-_, _*_, _/_, _≤_, _<_}
 use native.Mathlib.Nat.{mul-comm}
 use native.Mathlib.Omega.{arith}
 use native.Mathlib.Numerals.{add-one}
-use mathlib.Core.Bool.{Bool, true, false, cond}
+use mathlib.Core.Bool.{true, false}
 use mathlib.Core.List.{List, [], _∷_}
 use lib.Dec.{leb}
-use lib.ListN.{length, take, drop, getD, length-drop, drop-of-length-le}
+use lib.ListN.{length, take, drop, length-drop, drop-of-length-le}
 use lib.Seq.{drop-cons}
 use borrow.Author.Tests.{lt-leb, le-leb}
 use Rattle.packing.specs.Layout.{RECORD}
-use Rattle.model.specs.Given.{Result}
 use Rattle.providers.specs.declared.Listed.{Listed}
-use Rattle.rows.specs.Chunks.{chunks}
 use Rattle.rows.proofs.Pieces.{chunks-length, getD-chunks}
 use Rattle.scan.specs.Sound.{SoundTable}
 use Rattle.scan.specs.declared.Soundness.the-variants.{Sound}
@@ -22,8 +20,7 @@ use Rattle.tray.specs.Tray.{placesIn}
 use Rattle.checks.specs.Checks.{fitting, soundnessLent}
 use Rattle.engine.proofs.Keeping.{result-few}
 use Rattle.model.proofs.Lists.{and-l}
-use Rattle.batch.specs.declared.Ran.{Ran}
-use Rattle.batch.specs.Batch.{recordsIn, Stand, behind, after, resultAt, steps, begin, Went, Turned}
+use Rattle.batch.specs.Batch.{recordsIn, Stand, after, resultAt, steps, begin, Went, Turned}
 
 -- the tray behind m messages has so many places
 places-are : (y : List ℕ) (m : ℕ) → placesIn (drop (24 * m) y) ≡ (length y - 24 * m) / 24
@@ -73,7 +70,8 @@ module _ (l : Listed) (b : List ℕ) (most : ℕ) (es t₀ y₀ o₀ : List ℕ)
       ∙ ap (λ (e : List ℕ). e ∷ drop (suc i) (recordsIn es))
       (getD-chunks RECORD (length es / RECORD) i es h ∙ ap (λ (n : ℕ). take RECORD (drop n es)) (mul-comm i RECORD))
 
-  went : (s : Stand) → s ≡ whole → Went 0 whole (s .table) (s .tray) (s .outs) (record { outcome = 0; events = s .events; messages = s .messages })
+  went : (s : Stand) → s ≡ whole
+      → Went 0 whole (s .table) (s .tray) (s .outs) (record { outcome = 0; events = s .events; messages = s .messages })
   went s q =
       subst (λ (w : Stand). Went 0 w (s .table) (s .tray) (s .outs) (record { outcome = 0; events = s .events; messages = s .messages })) q
       (record { said = refl; done = refl; told = refl; left = refl; laid = refl; noted = refl })
@@ -83,10 +81,12 @@ module _ (l : Listed) (b : List ℕ) (most : ℕ) (es t₀ y₀ o₀ : List ℕ)
     S = record { table = t; tray = y; outs = o; events = i; messages = m }
 
     -- too few places are left
-    pub went-full : i < length es / RECORD → (length y - 24 * m) / 24 < 64 → Went 0 whole t y o (record { outcome = 0; events = i; messages = m })
+    pub went-full : i < length es / RECORD → (length y - 24 * m) / 24 < 64
+        → Went 0 whole t y o (record { outcome = 0; events = i; messages = m })
     unfolding steps
     went-full c f =
-        let p : leb 64 (placesIn (drop (24 * m) y)) ≡ false = lt-leb 64 (placesIn (drop (24 * m) y)) (subst (λ (n : ℕ). n < 64) (sym (places-are y m)) f) in
+        let p : leb 64 (placesIn (drop (24 * m) y)) ≡ false =
+        lt-leb 64 (placesIn (drop (24 * m) y)) (subst (λ (n : ℕ). n < 64) (sym (places-are y m)) f) in
         went S
         (sym (ap (λ (rs : List (List ℕ)). steps l b most rs S) (next-record i c) ∙ rw p) ∙ h .rest)
 
@@ -95,7 +95,8 @@ module _ (l : Listed) (b : List ℕ) (most : ℕ) (es t₀ y₀ o₀ : List ℕ)
     unfolding steps
     went-all c =
         went S
-        (sym (ap (λ (rs : List (List ℕ)). steps l b most rs S) (drop-of-length-le (recordsIn es) (subst (λ (n : ℕ). n ≤ i) (sym (chunks-length RECORD (length es / RECORD) es)) c))) ∙ h .rest)
+        (sym (ap (λ (rs : List (List ℕ)). steps l b most rs S)
+        (drop-of-length-le (recordsIn es) (subst (λ (n : ℕ). n ≤ i) (sym (chunks-length RECORD (length es / RECORD) es)) c))) ∙ h .rest)
 
     abbrev E : List ℕ
     E = take (24 * i + 24 - 24 * i) (drop (24 * i) es)
@@ -110,7 +111,8 @@ module _ (l : Listed) (b : List ℕ) (most : ℕ) (es t₀ y₀ o₀ : List ℕ)
         → Here v z u used′ m′ (i + 1)
     unfolding steps
     here-next v z u used′ m′ c f lt ly lo d =
-        let p : leb 64 (placesIn (drop (24 * m) y)) ≡ true = le-leb 64 (placesIn (drop (24 * m) y)) (subst (λ (n : ℕ). 64 ≤ n) (sym (places-are y m)) f) in
+        let p : leb 64 (placesIn (drop (24 * m) y)) ≡ true =
+        le-leb 64 (placesIn (drop (24 * m) y)) (subst (λ (n : ℕ). 64 ≤ n) (sym (places-are y m)) f) in
         let few : length (resultAt l b most E S .sent) ≤ 63 = result-few l b most E t (drop (24 * m) y) in
         let told : m′ ≡ m + length (resultAt l b most E S .sent) = ap (λ (s : Stand). s .messages) (d .is) in
         let R : Stand = record { table = v; tray = z; outs = u; events = suc i; messages = m′ } in
@@ -127,5 +129,6 @@ module _ (l : Listed) (b : List ℕ) (most : ℕ) (es t₀ y₀ o₀ : List ℕ)
           table-same = lt ∙ h .table-same;
           tray-same = ly ∙ h .tray-same;
           outs-same = lo ∙ h .outs-same;
-          rest = ap (λ (j : ℕ). steps l b most (drop j (recordsIn es)) (record { table = v; tray = z; outs = u; events = j; messages = m′ })) (add-one i) ∙ sym q ∙ h .rest;
+          rest = ap (λ (j : ℕ). steps l b most (drop j (recordsIn es))
+              (record { table = v; tray = z; outs = u; events = j; messages = m′ })) (add-one i) ∙ sym q ∙ h .rest;
         }

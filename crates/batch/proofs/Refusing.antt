@@ -1,21 +1,18 @@
 -- When a run is refused, and when it is the steps.
 -- Assumes nothing.
-use mathlib.Core.Path.{_≡_, refl, sym, ap, _∙_, subst}
+use mathlib.Core.Path.{_≡_, refl, sym, _∙_, subst}
 use Prim.Native.Nat.{ℕ, _*_, _/_, _%_, _≤_, _<_}
 use native.Mathlib.Omega.{arith}
 use mathlib.Core.Bool.{Bool, true, false, cond, _&&_}
-use mathlib.Core.List.{List, map}
+use mathlib.Core.List.{List}
 use lib.Dec.{eqb, leb}
 use lib.ListN.{length}
 use borrow.Author.Tests.{eq-eqb, ne-eqb, le-leb, lt-leb}
 use Rattle.packing.specs.Layout.{RECORD}
-use Rattle.model.proofs.Lists.{clash}
 use Rattle.providers.specs.declared.Listed.{Listed}
-use Rattle.scan.specs.declared.Soundness.{Soundness}
 use Rattle.scan.specs.declared.Soundness.the-variants.{Unsound, Sound}
 use Rattle.tray.specs.Tray.{placesIn}
 use Rattle.checks.specs.Checks.{fitting, soundnessLent}
-use Rattle.engine.specs.Step.{formed}
 use Rattle.batch.specs.declared.Ran.{Ran}
 use Rattle.batch.specs.Batch.{recordsIn, Stand, steps, begin, refusal, leaves, refusedWith, Went}
 
@@ -62,5 +59,7 @@ module _ (l : Listed) (b : List ℕ) (most : ℕ) (es t y o : List ℕ) where
   went-whole t′ y′ o′ r q w = rw q w
 
 pub went-is : (l k : Listed) (b : List ℕ) (most : ℕ) (es t y o t′ y′ o′ : List ℕ) (r : Ran) → l ≡ k
-    → Went (refusal l b most es t y o) (leaves l b most es t y o) t′ y′ o′ r → Went (refusal k b most es t y o) (leaves k b most es t y o) t′ y′ o′ r
-went-is l k b most es t y o t′ y′ o′ r q w = subst (λ (x : Listed). Went (refusal x b most es t y o) (leaves x b most es t y o) t′ y′ o′ r) q w
+    → Went (refusal l b most es t y o) (leaves l b most es t y o) t′ y′ o′ r
+    → Went (refusal k b most es t y o) (leaves k b most es t y o) t′ y′ o′ r
+went-is l k b most es t y o t′ y′ o′ r q w =
+    subst (λ (x : Listed). Went (refusal x b most es t y o) (leaves x b most es t y o) t′ y′ o′ r) q w

@@ -1,27 +1,26 @@
 -- One event of many: what a step on the tray behind the messages leaves of the whole.
 -- Assumes nothing.
-use mathlib.Core.Path.{_≡_, refl, sym, ap, ap₂, _∙_, subst}
+use mathlib.Core.Path.{_≡_, sym, ap, ap₂, _∙_, subst}
 use Prim.Native.Nat.{ℕ, suc, _+_, _-_, _*_, _≤_, _<_}
 use native.Mathlib.Omega.{arith}
-use mathlib.Core.List.{List, [], _++_, append-nil}
+use mathlib.Core.List.{List, _++_, append-nil}
 use lib.ListN.{length, take, drop, set, length-drop}
 use lib.Seq.{take-all, drop-length}
-use borrow.Rule.Slice.PartMut.{putMid, postOf, post-is}
+use borrow.Rule.Slice.PartMut.{putMid, post-is}
 use Rattle.model.specs.Outcomes.{numberOf}
 use Rattle.model.specs.Given.{Result}
 use Rattle.model.proofs.Outcomes.{number-small}
 use Rattle.providers.specs.declared.Listed.{Listed}
 use Rattle.rows.specs.Table.{decode}
-use Rattle.scan.specs.Sound.{SoundTable, rowsIn}
+use Rattle.scan.specs.Sound.{SoundTable}
 use Rattle.scan.specs.declared.Soundness.the-variants.{Sound}
-use Rattle.tray.specs.Tray.{placesIn, putAll}
 use Rattle.outcomes.specs.Answered.{noted}
 use Rattle.outcomes.specs.declared.Answer.{Answer}
-use Rattle.engine.specs.Event.{Did, tableAfter}
-use Rattle.checks.specs.Checks.{fitting, soundnessLent}
+use Rattle.engine.specs.Event.{Did}
+use Rattle.checks.specs.Checks.{soundnessLent}
 use Rattle.engine.specs.Step.{resultIn}
 use Rattle.engine.proofs.Keeping.{Again, again, result-few}
-use Rattle.batch.specs.Batch.{Stand, after, resultAt, Turned}
+use Rattle.batch.specs.Batch.{Stand, resultAt, Turned}
 
 -- the part of a list from a place on
 pub part-is : (y : List ℕ) (k : ℕ) → take (length y - k) (drop k y) ≡ drop k y
@@ -57,7 +56,8 @@ module _ (l : Listed) (b : List ℕ) (most : ℕ) (e t y o : List ℕ) (i m : �
       stays = subst (λ (v : List ℕ). Again l b t v) (sym (did .table)) (again l b most e t (drop k y) n st sc)
 
       pub turned : (used : ℕ) → used ≡ length (decode u) → k ≤ length y → (outs : List ℕ) → outs ≡ noted o i a
-          → Turned l b X S (record { table = u; tray = putMid k (length y - k) y z; outs = outs; events = suc i; messages = m + a .count }) used
+          → Turned l b X S (record { table = u; tray = putMid k (length y - k) y z; outs = outs; events = suc i; messages = m + a .count })
+          used
       turned used q h outs p = record {
         is = λ j. record {
           table = did .table j;
@@ -71,6 +71,9 @@ module _ (l : Listed) (b : List ℕ) (most : ℕ) (e t y o : List ℕ) (i m : �
       }
 
       pub turned-at : (used : ℕ) → used ≡ length (decode u) → k ≤ length y → (outs : List ℕ) → outs ≡ noted o i a → (s : Stand) → s ≡ S
-          → Turned l b (resultAt l b most e s) s (record { table = u; tray = putMid k (length y - k) y z; outs = outs; events = suc i; messages = m + a .count }) used
+          → Turned l b (resultAt l b most e s) s
+          (record { table = u; tray = putMid k (length y - k) y z; outs = outs; events = suc i; messages = m + a .count }) used
       turned-at used q h outs p s w =
-          subst (λ (v : Stand). Turned l b (resultAt l b most e v) v (record { table = u; tray = putMid k (length y - k) y z; outs = outs; events = suc i; messages = m + a .count }) used) (sym w) (turned used q h outs p)
+          subst (λ (v : Stand). Turned l b (resultAt l b most e v) v
+          (record { table = u; tray = putMid k (length y - k) y z; outs = outs; events = suc i; messages = m + a .count }) used) (sym w)
+          (turned used q h outs p)

@@ -1,16 +1,15 @@
 -- Many event records on one table: what repeated steps leave.
 -- Assumes nothing.
 use mathlib.Core.Path.{_≡_}
-use Prim.Native.Nat.{ℕ, suc, _+_, _*_, _/_, _%_, _≤_}
-use mathlib.Core.Bool.{Bool, true, cond, _&&_}
-use mathlib.Core.List.{List, [], _∷_, _++_, map}
+use Prim.Native.Nat.{ℕ, suc, _+_, _*_, _/_, _%_}
+use mathlib.Core.Bool.{cond, _&&_}
+use mathlib.Core.List.{List, [], _∷_, _++_}
 use lib.Dec.{eqb, leb}
 use lib.ListN.{length, take, drop, set}
 use Rattle.packing.specs.Layout.{RECORD}
 use Rattle.model.specs.Outcomes.{numberOf}
 use Rattle.model.specs.Given.{Result}
 use Rattle.model.specs.Step.{PLACES}
-use Rattle.providers.specs.Providers.{listed, entryOf}
 use Rattle.providers.specs.declared.Listed.{Listed}
 use Rattle.rows.specs.Chunks.{chunks}
 use Rattle.scan.specs.Sound.{SoundTable}
@@ -59,11 +58,12 @@ module _ (l : Listed) (b : List ℕ) (most : ℕ) where
 abbrev pub begin : List ℕ → List ℕ → List ℕ → Stand
 begin t y o = record { table = t; tray = y; outs = o; events = 0; messages = 0 }
 
--- Outcome 1: the table or the books are unsound, R is above 7, the tray has fewer than 64 places, or the outcome slice fewer than two bytes an
--- event; otherwise 2: the records are not whole.
+-- Outcome 1: the table or the books are unsound, R is above 7, the tray has fewer than 64 places, or the outcome slice fewer than two bytes
+-- an event; otherwise 2: the records are not whole.
 unfoldable pub refusal : Listed → List ℕ → ℕ → List ℕ → List ℕ → List ℕ → List ℕ → ℕ
 refusal l b most es t y o =
-    cond (formed l b t && leb most 7 && leb PLACES (placesIn y) && leb (2 * (length es / RECORD)) (length o)) (cond (eqb (length es % RECORD) 0) 0 2) 1
+    cond (formed l b t && leb most 7 && leb PLACES (placesIn y) && leb (2 * (length es / RECORD)) (length o))
+    (cond (eqb (length es % RECORD) 0) 0 2) 1
 
 -- what a run leaves
 unfoldable pub leaves : Listed → List ℕ → ℕ → List ℕ → List ℕ → List ℕ → List ℕ → Stand
@@ -81,6 +81,11 @@ pub record Went (n : ℕ) (s : Stand) (after trayAfter outsAfter : List ℕ) (r 
   pub left : after ≡ s .table
   pub laid : trayAfter ≡ s .tray
   pub noted : outsAfter ≡ s .outs
+
+-- A run with this provider list, these books, this R and these events: what it answers, and what the three slices hold after it.
+abbrev pub RunOn : Listed → List ℕ → ℕ → List ℕ → (table tray outs after trayAfter outsAfter : List ℕ) → Ran → Type 0
+RunOn l b most es t y o after trayAfter outsAfter r =
+    Went (refusal l b most es t y o) (leaves l b most es t y o) after trayAfter outsAfter r
 
 -- one event more, and the table is sound again
 pub record Turned (l : Listed) (b : List ℕ) (x : Result) (s u : Stand) (used : ℕ) : Type 0 where

@@ -15,7 +15,7 @@ ghost use Rattle.scan.specs.declared.Soundness.the-variants.{Sound};
 ghost use Rattle.tray.specs.Tray.{messageSize, placesIn};
 ghost use Rattle.checks.specs.Checks.{fitting, soundnessLent};
 ghost use Rattle.packing.specs.Layout.{RECORD};
-ghost use Rattle.batch.specs.Batch.{recordsIn, Stand, resultAt, steps, begin, refusal, leaves, refusedWith, Went, Turned};
+ghost use Rattle.batch.specs.Batch.{recordsIn, Stand, resultAt, steps, begin, refusedWith, Went, RunOn, Turned};
 
 // The outcome of the whole, how many events were done, and how many messages stand in the tray.
 #[repr(C)]
@@ -45,8 +45,14 @@ fn one(
     i: usize,
 ) -> Turn
     requires { ⌜ SoundTable (now table) n ⌝ }
-    requires { ⌜ (soundnessLent l (now books) (now table) ≡ Sound n) × (fitting most (placesIn (drop (messageSize * messages) (now tray))) ≡ true) × (2 * i + 2 ≤ length (now outs)) × (messageSize * messages ≤ length (now tray)) ⌝ }
-    ensures { λ r. ⌜ ((s : Stand) → s ≡ record { table = now (table .entry); tray = now (tray .entry); outs = now (outs .entry); events = i; messages = messages } → Turned l (now (books .entry)) (resultAt l (now (books .entry)) most (now (event .entry)) s) s (record { table = now (table .exit); tray = now (tray .exit); outs = now (outs .exit); events = suc i; messages = r .messages }) (r .used)) ⌝ }
+    requires { ⌜ (soundnessLent l (now books) (now table) ≡ Sound n)
+        × (fitting most (placesIn (drop (messageSize * messages) (now tray))) ≡ true) × (2 * i + 2 ≤ length (now outs))
+        × (messageSize * messages ≤ length (now tray)) ⌝ }
+    ensures { λ r. ⌜ ((s : Stand)
+        → s ≡ record { table = now (table .entry); tray = now (tray .entry); outs = now (outs .entry); events = i; messages = messages }
+        → Turned l (now (books .entry)) (resultAt l (now (books .entry)) most (now (event .entry)) s) s
+        (record { table = now (table .exit); tray = now (tray .exit); outs = now (outs .exit); events = suc i; messages = r .messages })
+        (r .used)) ⌝ }
 {
     let at = MESSAGE_SIZE * messages;
     let a = engine::step::on_fitting(table, n, l, books, most, event, &mut tray[at..]);
@@ -70,8 +76,11 @@ fn all(
     outs: &mut [u8],
 ) -> Ran
     requires { ⌜ SoundTable (now table) n ⌝ }
-    requires { ⌜ (soundnessLent l (now books) (now table) ≡ Sound n) × (fitting most (placesIn (now tray)) ≡ true) × (2 * (length (now events) / RECORD) ≤ length (now outs)) ⌝ }
-    ensures { λ r. ⌜ Went 0 (steps l (now (books .entry)) most (recordsIn (now (events .entry))) (begin (now (table .entry)) (now (tray .entry)) (now (outs .entry)))) (now (table .exit)) (now (tray .exit)) (now (outs .exit)) r ⌝ }
+    requires { ⌜ (soundnessLent l (now books) (now table) ≡ Sound n) × (fitting most (placesIn (now tray)) ≡ true)
+        × (2 * (length (now events) / RECORD) ≤ length (now outs)) ⌝ }
+    ensures { λ r. ⌜ Went 0 (steps l (now (books .entry)) most (recordsIn (now (events .entry)))
+        (begin (now (table .entry)) (now (tray .entry)) (now (outs .entry)))) (now (table .exit)) (now (tray .exit))
+        (now (outs .exit)) r ⌝ }
 {
     let count = events.len() / RECORD;
     let mut used = n;
@@ -133,7 +142,8 @@ fn on_table(
 ) -> Ran
     requires { ⌜ SoundTable (now table) n ⌝ }
     requires { ⌜ soundnessLent l (now books) (now table) ≡ Sound n ⌝ }
-    ensures { λ r. ⌜ Went (refusal l (now (books .entry)) most (now (events .entry)) (now (table .entry)) (now (tray .entry)) (now (outs .entry))) (leaves l (now (books .entry)) most (now (events .entry)) (now (table .entry)) (now (tray .entry)) (now (outs .entry))) (now (table .exit)) (now (tray .exit)) (now (outs .exit)) r ⌝ }
+    ensures { λ r. ⌜ RunOn l (now (books .entry)) most (now (events .entry))
+        (now (table .entry)) (now (tray .entry)) (now (outs .entry)) (now (table .exit)) (now (tray .exit)) (now (outs .exit)) r ⌝ }
 {
     let places = tray::places(tray);
     let fits = checks::fit(most, places);
@@ -159,7 +169,8 @@ pub fn run(
     tray: &mut [u8],
     outs: &mut [u8],
 ) -> Ran
-    ensures { λ r. ⌜ Went (refusal (listed (map entryOf (now (providers .entry)))) (now (books .entry)) most (now (events .entry)) (now (table .entry)) (now (tray .entry)) (now (outs .entry))) (leaves (listed (map entryOf (now (providers .entry)))) (now (books .entry)) most (now (events .entry)) (now (table .entry)) (now (tray .entry)) (now (outs .entry))) (now (table .exit)) (now (tray .exit)) (now (outs .exit)) r ⌝ }
+    ensures { λ r. ⌜ RunOn (listed (map entryOf (now (providers .entry)))) (now (books .entry)) most (now (events .entry))
+        (now (table .entry)) (now (tray .entry)) (now (outs .entry)) (now (table .exit)) (now (tray .exit)) (now (outs .exit)) r ⌝ }
 {
     let l = providers::marks_of_bytes(providers);
     let verdict = checks::lent(l, books, table);

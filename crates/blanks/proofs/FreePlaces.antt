@@ -40,14 +40,17 @@ nest true false c d = refl
 nest true true false d = refl
 nest true true true d = sym (and-true d)
 
-pub four : (bs : List ℕ) (at i : ℕ) → (eqb (be 8 bs (at + 8 * i)) 0 && eqb (be 8 bs (at + 8 * i + 8)) 0 && eqb (be 8 bs (at + 8 * i + 16)) 0 && eqb (be 8 bs (at + 8 * i + 24)) 0) ≡ freeFrom (placeOf 8 at bs) 4 i
+pub four : (bs : List ℕ) (at i : ℕ)
+    → (eqb (be 8 bs (at + 8 * i)) 0 && eqb (be 8 bs (at + 8 * i + 8)) 0 && eqb (be 8 bs (at + 8 * i + 16)) 0
+    && eqb (be 8 bs (at + 8 * i + 24)) 0) ≡ freeFrom (placeOf 8 at bs) 4 i
 unfolding freeFrom
 four bs at i =
     let e1 : at + 8 * i + 8 ≡ at + 8 * (suc i) = omega arith in
     let e2 : at + 8 * i + 16 ≡ at + 8 * (suc (suc i)) = omega arith in
     let e3 : at + 8 * i + 24 ≡ at + 8 * (suc (suc (suc i))) = omega arith in
     rw (e1, e2, e3)
-    (nest (eqb (be 8 bs (at + 8 * i)) 0) (eqb (be 8 bs (at + 8 * (suc i))) 0) (eqb (be 8 bs (at + 8 * (suc (suc i)))) 0) (eqb (be 8 bs (at + 8 * (suc (suc (suc i))))) 0))
+    (nest (eqb (be 8 bs (at + 8 * i)) 0) (eqb (be 8 bs (at + 8 * (suc i))) 0) (eqb (be 8 bs (at + 8 * (suc (suc i)))) 0)
+    (eqb (be 8 bs (at + 8 * (suc (suc (suc i))))) 0))
 
 -- ---- many of them
 
@@ -98,8 +101,13 @@ free-pairs bs at (suc m) i =
     let e : 2 * suc m ≡ suc (suc (2 * m)) = omega arith in
     let j : suc (suc (2 * i)) ≡ 2 * suc i = omega arith in
     let k : 2 * i + 1 ≡ suc (2 * i) = omega arith in
-    ap₂ (λ (a b : Bool). a && b) (go (be 4 bs (at + 4 * (2 * i))) (be 4 bs (at + 4 * suc (2 * i))) (pair-word bs at i ∙ ap (λ (x : ℕ). be 4 bs (at + 4 * (2 * i)) * 2 ^ 32 + be 4 bs (at + 4 * x)) k)) (free-pairs bs at m (suc i))
-    ∙ and-assoc (eqb (be 4 bs (at + 4 * (2 * i))) 0) (eqb (be 4 bs (at + 4 * suc (2 * i))) 0) (freeFrom (placeOf 4 at bs) (2 * m) (2 * suc i)) ∙ ap (λ (x : ℕ). eqb (be 4 bs (at + 4 * (2 * i))) 0 && (eqb (be 4 bs (at + 4 * suc (2 * i))) 0 && freeFrom (placeOf 4 at bs) (2 * m) x)) (sym j)
+    ap₂ (λ (a b : Bool). a && b)
+    (go (be 4 bs (at + 4 * (2 * i))) (be 4 bs (at + 4 * suc (2 * i)))
+    (pair-word bs at i ∙ ap (λ (x : ℕ). be 4 bs (at + 4 * (2 * i)) * 2 ^ 32 + be 4 bs (at + 4 * x)) k)) (free-pairs bs at m (suc i))
+    ∙ and-assoc (eqb (be 4 bs (at + 4 * (2 * i))) 0) (eqb (be 4 bs (at + 4 * suc (2 * i))) 0)
+    (freeFrom (placeOf 4 at bs) (2 * m) (2 * suc i))
+    ∙ ap (λ (x : ℕ). eqb (be 4 bs (at + 4 * (2 * i))) 0
+    && (eqb (be 4 bs (at + 4 * suc (2 * i))) 0 && freeFrom (placeOf 4 at bs) (2 * m) x)) (sym j)
     ∙ ap (λ (x : ℕ). freeFrom (placeOf 4 at bs) x (2 * i)) (sym e)
   where
     go : (a b : ℕ) → be 8 bs (at + 8 * i) ≡ a * 2 ^ 32 + b → eqb (be 8 bs (at + 8 * i)) 0 ≡ (eqb a 0 && eqb b 0)
@@ -111,7 +119,8 @@ free-pairs bs at (suc m) i =
         cases false e y k = ne-eqb (be 8 bs (at + 8 * i)) 0 (λ q. eqb-false a 0 e (omega (arith, h, q)))
 
 -- the same from a place of four bytes on, of 2 * n in all: an even one, and an odd one that is free
-pub free-even : (bs : List ℕ) (at n i : ℕ) → (i % 2 ≡ 1 → ⊥) → freeFrom (placeOf 4 at bs) (2 * n - i) i ≡ freeFrom (placeOf 8 at bs) (n - i / 2) (i / 2)
+pub free-even : (bs : List ℕ) (at n i : ℕ) → (i % 2 ≡ 1 → ⊥)
+    → freeFrom (placeOf 4 at bs) (2 * n - i) i ≡ freeFrom (placeOf 8 at bs) (n - i / 2) (i / 2)
 free-even bs at n i h =
     let e : i ≡ 2 * (i / 2) = omega arith in
     let m : 2 * n - i ≡ 2 * (n - i / 2) = omega arith in

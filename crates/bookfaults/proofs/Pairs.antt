@@ -1,6 +1,6 @@
 -- Pairs, each apart from those before it, are pairs each apart from those behind it. Assumes nothing.
 use Prim.Native.Nat.{ℕ, zero, suc, _/_, _%_, _^_}
-use mathlib.Core.Path.{_≡_, refl, ap, ap₂, _∙_}
+use mathlib.Core.Path.{_≡_, refl, ap, _∙_}
 use mathlib.Core.Bool.{Bool, true, false, cond, not, _&&_, _||_}
 use mathlib.Core.List.{List, [], _∷_, map}
 use native.Mathlib.Omega.{arith}
@@ -11,7 +11,7 @@ use Rattle.model.specs.Books.{unsplit}
 use Rattle.model.specs.Numbers.{isCode}
 use Rattle.books.specs.Packed.{splitOf}
 use Rattle.soundbooks.specs.Scan.{chain}
-use Rattle.soundbooks.specs.Sound.{apartFrom, goodSplit, splitTest}
+use Rattle.soundbooks.specs.Sound.{apartFrom, splitTest}
 use Rattle.faults.specs.Faults.{nearest}
 use Rattle.bookfaults.specs.Clauses.{meets, metBy}
 
@@ -57,7 +57,8 @@ behind-clear : (x : ℕ) (xs : List ℕ) → all (λ (y : ℕ). not (meets x y))
 behind-clear x [] = refl
 behind-clear x (y ∷ ys) =
     ap (λ (b : Bool). not (meets x y) && b) (behind-clear x ys)
-    ∙ go (eqb (y / 2 ^ 32) (x / 2 ^ 32)) (eqb (y % 2 ^ 32) (x / 2 ^ 32)) (eqb (y / 2 ^ 32) (x % 2 ^ 32)) (eqb (y % 2 ^ 32) (x % 2 ^ 32)) (unsplit (x / 2 ^ 32) (map splitOf ys)) (unsplit (x % 2 ^ 32) (map splitOf ys))
+    ∙ go (eqb (y / 2 ^ 32) (x / 2 ^ 32)) (eqb (y % 2 ^ 32) (x / 2 ^ 32)) (eqb (y / 2 ^ 32) (x % 2 ^ 32)) (eqb (y % 2 ^ 32) (x % 2 ^ 32))
+    (unsplit (x / 2 ^ 32) (map splitOf ys)) (unsplit (x % 2 ^ 32) (map splitOf ys))
   where
     go : (p q r s a b : Bool) → (not ((p || q) || (r || s)) && (a && b)) ≡ (((not p && not q) && a) && ((not r && not s) && b))
     go true q r s a b = refl
@@ -73,7 +74,9 @@ pub pairs-chain : (us : List ℕ) (last : ℕ) (xs : List ℕ) → pairsFrom us 
 pairs-chain us last [] = refl
 pairs-chain us last (x ∷ xs) =
     ap (λ (b : Bool). (twoCodes x && (differ x && clear us x)) && b)
-    (pairs-chain (x ∷ us) x xs ∙ ap (λ (b : Bool). chain splitTest x xs && b) (all-both (λ (y : ℕ). not (meets x y)) (clear us) xs ∙ ap (λ (b : Bool). b && all (clear us) xs) (behind-clear x xs)))
+    (pairs-chain (x ∷ us) x xs
+    ∙ ap (λ (b : Bool). chain splitTest x xs && b) (all-both (λ (y : ℕ). not (meets x y)) (clear us) xs
+    ∙ ap (λ (b : Bool). b && all (clear us) xs) (behind-clear x xs)))
     ∙ go (twoCodes x) (differ x) (apartFrom (x / 2 ^ 32) (x % 2 ^ 32) xs) (clear us x) (chain splitTest x xs) (all (clear us) xs)
   where
     go : (c d e a k n : Bool) → ((c && (d && a)) && (k && (e && n))) ≡ ((((d && e) && c) && k) && (a && n))

@@ -1,5 +1,5 @@
 -- The three lists by their names: how many places each has, and which they are. Assumes nothing.
-use Prim.Native.Nat.{ℕ, zero, suc, _-_, _<_}
+use Prim.Native.Nat.{ℕ, zero, suc, _-_}
 use mathlib.Core.Path.{_≡_, refl, sym, _∙_}
 use mathlib.Core.Bool.{false}
 use mathlib.Core.List.{List}
@@ -9,7 +9,8 @@ use lib.Dec.{eqb}
 use Rattle.books.specs.Packed.{rowPlaces, splitPlaces, codePlace, filterPlace, splitPlace}
 use Rattle.faults.specs.Faults.{foundAt, firstBroken}
 use Rattle.model.specs.declared.Marks.{Marks}
-use Rattle.bookfaults.specs.Clauses.{codes, filters, placeIn, placesOf, lastAt, codeClauses, filterClauses, pairClauses, metBy, placeFound}
+use Rattle.bookfaults.specs.Clauses.{codes, filters, placeIn, placesOf, lastAt, codeClauses, filterClauses, pairClauses, metBy}
+use Rattle.bookfaults.specs.Clauses.{placeFound}
 
 module _ (l : ℕ) where
   module _ (e : l ≡ codes) where
@@ -66,6 +67,7 @@ module _ (l : ℕ) (m : Marks) (w : ℕ → ℕ) (i x y : ℕ) (ex : x ≡ w i) 
     unfolding placeFound
     found-filter n e = rw (ex, ey, used, ne-eqb l codes n, eq-eqb l filters e)
 
-    pub found-pair : (l ≡ codes → ⊥) → (l ≡ filters → ⊥) → (o : ℕ) → o ≡ metBy w i x → firstBroken (pairClauses o i y x) (foundAt 0 0) ≡ placeFound l m w i
+    pub found-pair : (l ≡ codes → ⊥) → (l ≡ filters → ⊥) → (o : ℕ) → o ≡ metBy w i x
+        → firstBroken (pairClauses o i y x) (foundAt 0 0) ≡ placeFound l m w i
     unfolding placeFound
     found-pair n f o eo = rw (eo, ex, ey, used, ne-eqb l codes n, ne-eqb l filters f)

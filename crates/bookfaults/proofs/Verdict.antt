@@ -18,15 +18,17 @@ use Rattle.faults.specs.declared.Found.{Found}
 use Rattle.faults.specs.declared.Fault.{Fault}
 use Rattle.faults.specs.Faults.{Clause, foundAt, firstBroken, broken, firstFault, orElse, isFaultless}
 use Rattle.faults.proofs.Laws.{not-leb, numbered, allHold, none-broken, faultless-next, faulty-here}
-use Rattle.providers.specs.Providers.{fine, soundList, listed, entryOf}
+use Rattle.providers.specs.Providers.{fine, listed, entryOf}
 use Rattle.providers.proofs.Laws.{listed-says, listed-sound}
-use Rattle.books.specs.Packed.{bookBytes, rowPlaces, splitPlaces, headOf, codePlace, filterPlace, splitPlace, usedFrom, freeFrom, packedFrom, soundBytes}
+use Rattle.books.specs.Packed.{bookBytes, rowPlaces, splitPlaces, headOf, codePlace, filterPlace, splitPlace, usedFrom, freeFrom}
+use Rattle.books.specs.Packed.{packedFrom, soundBytes}
 use Rattle.entries.specs.Good.{goodCode, goodFilter, goodRow}
 use Rattle.soundbooks.specs.Scan.{chain, scan}
 use Rattle.soundbooks.proofs.Scanning.{scan-is}
 use Rattle.soundbooks.specs.Sound.{rowTest, splitTest}
 use Rattle.soundbooks.proofs.Soundness.{sound-parts}
-use Rattle.bookfaults.specs.Clauses.{markFound, providersFault, later, here, codeClauses, filterClauses, pairClauses, codes, filters, pairs, placeIn, lastAt, metBy, clausesIn, placeFound, listFault, bytesFault, booksFault}
+use Rattle.bookfaults.specs.Clauses.{markFound, providersFault, later, here, codeClauses, filterClauses, pairClauses, codes, filters}
+use Rattle.bookfaults.specs.Clauses.{pairs, placeIn, lastAt, metBy, clausesIn, placeFound, listFault, bytesFault, booksFault}
 use Rattle.bookfaults.proofs.Pairs.{twoCodes, differ, clear, pairsFrom, prefix, met-clear, pairs-chain}
 
 -- ---- the provider list
@@ -47,13 +49,15 @@ marks-agree p (suc n) i h =
     go (among (getD p i 0) (0 ∷ 1 ∷ 3 ∷ [])) refl (marks-agree p n (suc i) (omega arith))
     ∙ sym (ap (λ (l : List ℕ). all fine (map entryOf l)) (drop-cons p i 0 (omega arith)))
   where
-    go : (b : Bool) → among (getD p i 0) (0 ∷ 1 ∷ 3 ∷ []) ≡ b → isFaultless (firstFault (markFound p) n (suc i)) ≡ all fine (map entryOf (drop (suc i) p))
+    go : (b : Bool) → among (getD p i 0) (0 ∷ 1 ∷ 3 ∷ []) ≡ b → isFaultless (firstFault (markFound p) n (suc i))
+        ≡ all fine (map entryOf (drop (suc i) p))
         → isFaultless (firstFault (markFound p) (suc n) i) ≡ (fine (entryOf (getD p i 0)) && all fine (map entryOf (drop (suc i) p)))
     go true e ih =
         faultless-next (markFound p) n i (rw e) ∙ ih
         ∙ ap (λ (b : Bool). b && all fine (map entryOf (drop (suc i) p))) (sym e ∙ mark-fine (getD p i 0))
     go false e ih =
-        faulty-here (markFound p) n i (rw e) ∙ ap (λ (b : Bool). b && all fine (map entryOf (drop (suc i) p))) (sym e ∙ mark-fine (getD p i 0))
+        faulty-here (markFound p) n i (rw e) ∙ ap (λ (b : Bool). b && all fine (map entryOf (drop (suc i) p)))
+        (sym e ∙ mark-fine (getD p i 0))
 
 providers-agree : (p : List ℕ) → isFaultless (providersFault p) ≡ listed (map entryOf p) .sound
 unfolding providersFault
@@ -62,7 +66,8 @@ providers-agree p =
     ∙ ap₂ (λ (n : ℕ) (b : Bool). leb n 63 && b) (sym (length-map p entryOf)) (marks-agree p (length p) 0 (omega arith))
     ∙ sym (listed-says (map entryOf p))
   where
-    go : (b : Bool) → isFaultless (cond b (firstFault (markFound p) (length p) 0) (broken 1)) ≡ (b && isFaultless (firstFault (markFound p) (length p) 0))
+    go : (b : Bool) → isFaultless (cond b (firstFault (markFound p) (length p) 0) (broken 1))
+        ≡ (b && isFaultless (firstFault (markFound p) (length p) 0))
     go true = refl
     go false = refl
 
@@ -87,7 +92,8 @@ module _ (w : ℕ → ℕ) (found : ℕ → Found) (good : ℕ → Bool)
   free-agrees zero i z = refl
   free-agrees (suc m) i z = go (eqb (w (suc i)) 0) refl (free-agrees m (suc i))
     where
-      go : (b : Bool) → eqb (w (suc i)) 0 ≡ b → (w (suc i) ≡ 0 → isFaultless (firstFault found m (suc (suc i))) ≡ freeFrom w m (suc (suc i)))
+      go : (b : Bool) → eqb (w (suc i)) 0 ≡ b
+          → (w (suc i) ≡ 0 → isFaultless (firstFault found m (suc (suc i))) ≡ freeFrom w m (suc (suc i)))
           → isFaultless (firstFault found (suc m) (suc i)) ≡ (b && freeFrom w m (suc (suc i)))
       go true e ih = faultless-next found m (suc i) (free (suc i) (eqb-true _ _ e)) ∙ ih (eqb-true _ _ e)
       go false e ih = faulty-here found m (suc i) (behind i z (eqb-false _ _ e))
@@ -97,8 +103,10 @@ module _ (w : ℕ → ℕ) (found : ℕ → Found) (good : ℕ → Bool)
   places-agree zero i b = refl
   places-agree (suc m) i b = go (eqb (w i) 0) (good i) refl refl (places-agree m (suc i))
     where
-      go : (f g : Bool) → eqb (w i) 0 ≡ f → good i ≡ g → (Behind w (suc i) → isFaultless (firstFault found m (suc i)) ≡ (packedFrom w m (suc i) && allUsed w good m (suc i)))
-          → isFaultless (firstFault found (suc m) i) ≡ (cond f (freeFrom w m (suc i)) (packedFrom w m (suc i)) && cond f true (g && allUsed w good m (suc i)))
+      go : (f g : Bool) → eqb (w i) 0 ≡ f → good i ≡ g
+          → (Behind w (suc i) → isFaultless (firstFault found m (suc i)) ≡ (packedFrom w m (suc i) && allUsed w good m (suc i)))
+          → isFaultless (firstFault found (suc m) i)
+          ≡ (cond f (freeFrom w m (suc i)) (packedFrom w m (suc i)) && cond f true (g && allUsed w good m (suc i)))
       go true g e eg ih =
           faultless-next found m i (free i (eqb-true _ _ e)) ∙ free-agrees m i (eqb-true _ _ e) ∙ sym (and-true (freeFrom w m (suc i)))
       go false true e eg ih = faultless-next found m i (used i b (eqb-false _ _ e) ∙ eg) ∙ ih (eqb-false _ _ e)
@@ -112,7 +120,8 @@ module _ (l : ℕ) (m : Marks) (w : ℕ → ℕ) where
   place-free i z = rw (eq-eqb (w i) 0 z)
 
   module _ (i : ℕ) (u : w i ≡ 0 → ⊥) where
-    place-used : (cs : List Clause) → clausesIn l m w i ≡ cs → eqb (placeFound l m w i .clause) 0 ≡ eqb (firstBroken cs (foundAt 0 0) .clause) 0
+    place-used : (cs : List Clause) → clausesIn l m w i ≡ cs
+        → eqb (placeFound l m w i .clause) 0 ≡ eqb (firstBroken cs (foundAt 0 0) .clause) 0
     unfolding placeFound
     place-used cs e = rw (ne-eqb (w i) 0 u, e)
 
@@ -135,7 +144,8 @@ module _ (w : ℕ → ℕ) where
   above f z (suc j) x h = rw (lt-ltb 0 (suc j) (omega arith)) (not-leb (f x) (f (w j)))
 
   -- row by row is the pass of the engine's own check
-  rows-chain : (b : Bool) (m : Marks) (n i : ℕ) → allUsed w (λ (k : ℕ). goodRow b m (lastAt w k) (w k)) n i ≡ chain (rowTest b m) (lastAt w i) (usedFrom w n i)
+  rows-chain : (b : Bool) (m : Marks) (n i : ℕ) → allUsed w (λ (k : ℕ). goodRow b m (lastAt w k) (w k)) n i ≡ chain (rowTest b m)
+      (lastAt w i) (usedFrom w n i)
   unfolding usedFrom
   rows-chain b m zero i = refl
   rows-chain b m (suc n) i = go (eqb (w i) 0) (rows-chain b m n (suc i))
@@ -151,16 +161,19 @@ module _ (w : ℕ → ℕ) where
       place-holds codes m w i u (codeClauses m i (lastAt w i) (w i)) refl refl ∙ good
     where
       go : (c : Bool) → isCode (w i / 64) ≡ c
-          → (c && (here m (w i % 64) && (not (later i (leb (w i / 64) (lastAt w i / 64))) && true))) ≡ (ltb (lastAt w i / 64) (w i / 64) && (c && isProvider (w i % 64) && member (m .present) (w i % 64)))
+          → (c && (here m (w i % 64) && (not (later i (leb (w i / 64) (lastAt w i / 64))) && true)))
+          ≡ (ltb (lastAt w i / 64) (w i / 64) && (c && isProvider (w i % 64) && member (m .present) (w i % 64)))
       go true e =
           let h : 200000 ≤ w i / 64 = leb-true _ _ (and-l _ _ (and-l _ _ e)) in
-          rw (above (λ (k : ℕ). k / 64) refl i (w i) (omega arith), and-true) (and-comm (here m (w i % 64)) (ltb (lastAt w i / 64) (w i / 64)))
+          rw (above (λ (k : ℕ). k / 64) refl i (w i) (omega arith), and-true)
+          (and-comm (here m (w i % 64)) (ltb (lastAt w i / 64) (w i / 64)))
       go false e = sym (and-false (ltb (lastAt w i / 64) (w i / 64)))
 
       good : allHold (codeClauses m i (lastAt w i) (w i)) ≡ goodCode m (lastAt w i) (w i)
       good = rw (not-behind i b) (go (isCode (w i / 64)) refl)
 
-  filter-good : (m : Marks) (i : ℕ) → Behind w i → (w i ≡ 0 → ⊥) → eqb (placeFound filters m w i .clause) 0 ≡ goodFilter m (lastAt w i) (w i)
+  filter-good : (m : Marks) (i : ℕ) → Behind w i → (w i ≡ 0 → ⊥)
+      → eqb (placeFound filters m w i .clause) 0 ≡ goodFilter m (lastAt w i) (w i)
   filter-good m i b u =
       place-holds filters m w i u (filterClauses m i (lastAt w i) (w i)) refl refl ∙ good
     where
@@ -185,12 +198,14 @@ module _ (w : ℕ → ℕ) where
 
   pub codes-agree : (m : Marks) (n : ℕ) → isFaultless (firstFault (placeFound codes m w) n 0) ≡ scan (rowTest false m) w n 0 0
   codes-agree m n =
-      places-agree w (placeFound codes m w) (λ (i : ℕ). goodRow false m (lastAt w i) (w i)) (place-free codes m w) (code-behind m) (code-good m) n 0 tt
+      places-agree w (placeFound codes m w) (λ (i : ℕ). goodRow false m (lastAt w i) (w i)) (place-free codes m w)
+      (code-behind m) (code-good m) n 0 tt
       ∙ ap (λ (b : Bool). packedFrom w n 0 && b) (rows-chain false m n 0) ∙ sym (scan-is (rowTest false m) w n 0 0)
 
   pub filters-agree : (m : Marks) (n : ℕ) → isFaultless (firstFault (placeFound filters m w) n 0) ≡ scan (rowTest true m) w n 0 0
   filters-agree m n =
-      places-agree w (placeFound filters m w) (λ (i : ℕ). goodRow true m (lastAt w i) (w i)) (place-free filters m w) (filter-behind m) (filter-good m) n 0 tt
+      places-agree w (placeFound filters m w) (λ (i : ℕ). goodRow true m (lastAt w i) (w i)) (place-free filters m w) (filter-behind m)
+      (filter-good m) n 0 tt
       ∙ ap (λ (b : Bool). packedFrom w n 0 && b) (rows-chain true m n 0) ∙ sym (scan-is (rowTest true m) w n 0 0)
 
   -- ---- pairs
@@ -226,7 +241,8 @@ module _ (w : ℕ → ℕ) where
   pairs-agree m n =
       places-agree w (placeFound pairs m w) pairGood (place-free pairs m w) (pair-behind m) (pair-good m) n 0 tt
       ∙ ap (λ (b : Bool). packedFrom w n 0 && b)
-      (pairs-from n 0 ∙ pairs-chain [] 0 (usedFrom w n 0) ∙ ap (λ (b : Bool). chain splitTest 0 (usedFrom w n 0) && b) (all-clear (usedFrom w n 0)) ∙ and-true _)
+      (pairs-from n 0 ∙ pairs-chain [] 0 (usedFrom w n 0) ∙ ap (λ (b : Bool). chain splitTest 0 (usedFrom w n 0) && b)
+      (all-clear (usedFrom w n 0)) ∙ and-true _)
       ∙ sym (scan-is splitTest w n 0 0)
 
 -- ---- the whole answer
@@ -242,20 +258,26 @@ bytes-agree : (m : Marks) (bs : List ℕ) → soundMarks m ≡ true → isFaultl
 unfolding bytesFault listFault placeIn
 bytes-agree m bs s = go (eqb (length bs) bookBytes) (eqb (headOf bs) 0) ∙ rw s at (sym (sound-parts m bs))
   where
-    lists : isFaultless (orElse (listFault codes m bs) (orElse (listFault filters m bs) (listFault pairs m bs))) ≡ (scan (rowTest false m) (codePlace bs) rowPlaces 0 0 && (scan (rowTest true m) (filterPlace bs) rowPlaces 0 0 && scan splitTest (splitPlace bs) splitPlaces 0 0))
+    lists : isFaultless (orElse (listFault codes m bs) (orElse (listFault filters m bs) (listFault pairs m bs)))
+        ≡ (scan (rowTest false m) (codePlace bs) rowPlaces 0 0
+        && (scan (rowTest true m) (filterPlace bs) rowPlaces 0 0 && scan splitTest (splitPlace bs) splitPlaces 0 0))
     lists =
         or-agrees (listFault codes m bs) (orElse (listFault filters m bs) (listFault pairs m bs))
         ∙ ap₂ (λ (a b : Bool). a && b) (codes-agree (codePlace bs) m rowPlaces)
-        (or-agrees (listFault filters m bs) (listFault pairs m bs) ∙ ap₂ (λ (a b : Bool). a && b) (filters-agree (filterPlace bs) m rowPlaces) (pairs-agree (splitPlace bs) m splitPlaces))
+        (or-agrees (listFault filters m bs) (listFault pairs m bs)
+        ∙ ap₂ (λ (a b : Bool). a && b) (filters-agree (filterPlace bs) m rowPlaces) (pairs-agree (splitPlace bs) m splitPlaces))
 
-    go : (a b : Bool) → isFaultless (cond a (cond b (orElse (listFault codes m bs) (orElse (listFault filters m bs) (listFault pairs m bs))) (broken 4)) (broken 3))
-        ≡ (a && (b && (true && (scan (rowTest false m) (codePlace bs) rowPlaces 0 0 && (scan (rowTest true m) (filterPlace bs) rowPlaces 0 0 && scan splitTest (splitPlace bs) splitPlaces 0 0)))))
+    go : (a b : Bool) → isFaultless
+        (cond a (cond b (orElse (listFault codes m bs) (orElse (listFault filters m bs) (listFault pairs m bs))) (broken 4)) (broken 3))
+        ≡ (a && (b && (true && (scan (rowTest false m) (codePlace bs) rowPlaces 0 0
+        && (scan (rowTest true m) (filterPlace bs) rowPlaces 0 0 && scan splitTest (splitPlace bs) splitPlaces 0 0)))))
     go true true = lists
     go true false = refl
     go false b = refl
 
 -- NOTHING IS AT FAULT exactly where provider list and books are sound
-pub books-verdict : (p bs : List ℕ) → isFaultless (booksFault p bs) ≡ (listed (map entryOf p) .sound && soundBytes (listed (map entryOf p) .marks) bs)
+pub books-verdict : (p bs : List ℕ)
+    → isFaultless (booksFault p bs) ≡ (listed (map entryOf p) .sound && soundBytes (listed (map entryOf p) .marks) bs)
 unfolding booksFault
 books-verdict p bs =
     or-agrees (providersFault p) (bytesFault (listed (map entryOf p) .marks) bs)

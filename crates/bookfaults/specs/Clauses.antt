@@ -114,7 +114,8 @@ listFault l m bs = firstFault (placeFound l m (placeIn l bs)) (placesOf l) 0
 unfoldable pub bytesFault : Marks → List ℕ → Fault
 bytesFault m bs =
     cond (eqb (length bs) bookBytes)
-    (cond (eqb (headOf bs) 0) (orElse (listFault codes m bs) (orElse (listFault filters m bs) (listFault pairs m bs))) (broken 4)) (broken 3)
+    (cond (eqb (headOf bs) 0) (orElse (listFault codes m bs) (orElse (listFault filters m bs) (listFault pairs m bs))) (broken 4))
+    (broken 3)
 
 unfoldable pub booksFault : List ℕ → List ℕ → Fault
 booksFault p bs = orElse (providersFault p) (bytesFault (listed (map entryOf p) .marks) bs)

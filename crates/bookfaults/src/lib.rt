@@ -1,5 +1,5 @@
-// Where provider list and books are unsound: the first place that breaks a clause, and the first clause that it breaks. docs/FAULTS.md has the
-// numbers.
+// Where provider list and books are unsound: the first place that breaks a clause, and the first clause that it breaks. docs/FAULTS.md has
+// the numbers.
 use faults::Fault;
 use model::Marks;
 ghost use mathlib.Core.Path.{_≡_};

@@ -8,7 +8,8 @@ ghost use Prim.Native.Nat.{_<_, _≤_};
 ghost use lib.ListN.{length};
 ghost use Rattle.faults.specs.Faults.{foundAt, firstBroken};
 ghost use Rattle.books.specs.Packed.{bookBytes, splitPlaces, splitPlace};
-ghost use Rattle.bookfaults.specs.Clauses.{here, codeClauses, filterClauses, meets, pairClauses, placeIn, placesOf, lastAt, metBy, placeFound, listFault};
+ghost use Rattle.bookfaults.specs.Clauses.{here, codeClauses, filterClauses, meets, pairClauses, placeIn, placesOf, lastAt, metBy};
+ghost use Rattle.bookfaults.specs.Clauses.{placeFound, listFault};
 
 pub const CODES: u64 = 5;
 

@@ -10,7 +10,8 @@ use lib.ListN.{length}
 use Rattle.octets.proofs.Fields.{and-l, and-r}
 use Rattle.model.specs.Books.{soundMarks, soundCodes, soundFilters, soundSplits, soundBooks}
 use Rattle.model.specs.declared.Marks.{Marks}
-use Rattle.books.specs.Packed.{bookBytes, rowPlaces, splitPlaces, headOf, codePlace, filterPlace, splitPlace, codesOf, filtersOf, splitsOf, packedFrom, decodeBooks, soundBytes}
+use Rattle.books.specs.Packed.{bookBytes, rowPlaces, splitPlaces, headOf, codePlace, filterPlace, splitPlace, codesOf, filtersOf}
+use Rattle.books.specs.Packed.{splitsOf, packedFrom, decodeBooks, soundBytes}
 
 module _ (m : Marks) (bs : List ℕ) (e : soundBytes m bs ≡ true) where
   -- they have the books' length
@@ -20,10 +21,13 @@ module _ (m : Marks) (bs : List ℕ) (e : soundBytes m bs ≡ true) where
       eqb-true (length bs) bookBytes
       (and-l (eqb (length bs) bookBytes) (eqb (headOf bs) 0)
       (and-l (eqb (length bs) bookBytes && eqb (headOf bs) 0) (packedFrom (codePlace bs) rowPlaces 0)
-      (and-l (eqb (length bs) bookBytes && eqb (headOf bs) 0 && packedFrom (codePlace bs) rowPlaces 0) (packedFrom (filterPlace bs) rowPlaces 0)
-      (and-l (eqb (length bs) bookBytes && eqb (headOf bs) 0 && packedFrom (codePlace bs) rowPlaces 0 && packedFrom (filterPlace bs) rowPlaces 0) (packedFrom (splitPlace bs) splitPlaces 0)
+      (and-l (eqb (length bs) bookBytes && eqb (headOf bs) 0 && packedFrom (codePlace bs) rowPlaces 0)
+      (packedFrom (filterPlace bs) rowPlaces 0)
+      (and-l (eqb (length bs) bookBytes && eqb (headOf bs) 0 && packedFrom (codePlace bs) rowPlaces 0 && packedFrom (filterPlace bs)
+      rowPlaces 0) (packedFrom (splitPlace bs) splitPlaces 0)
       (and-l
-      (eqb (length bs) bookBytes && eqb (headOf bs) 0 && packedFrom (codePlace bs) rowPlaces 0 && packedFrom (filterPlace bs) rowPlaces 0 && packedFrom (splitPlace bs) splitPlaces 0)
+      (eqb (length bs) bookBytes && eqb (headOf bs) 0 && packedFrom (codePlace bs) rowPlaces 0 && packedFrom (filterPlace bs) rowPlaces 0
+      && packedFrom (splitPlace bs) splitPlaces 0)
       (soundBooks (decodeBooks m bs)) e)))))
 
   -- they are sound books
@@ -31,7 +35,8 @@ module _ (m : Marks) (bs : List ℕ) (e : soundBytes m bs ≡ true) where
   unfolding soundBytes
   sound-books =
       and-r
-      (eqb (length bs) bookBytes && eqb (headOf bs) 0 && packedFrom (codePlace bs) rowPlaces 0 && packedFrom (filterPlace bs) rowPlaces 0 && packedFrom (splitPlace bs) splitPlaces 0)
+      (eqb (length bs) bookBytes && eqb (headOf bs) 0 && packedFrom (codePlace bs) rowPlaces 0 && packedFrom (filterPlace bs) rowPlaces 0
+      && packedFrom (splitPlace bs) splitPlaces 0)
       (soundBooks (decodeBooks m bs)) e
 
   pub sound-marks : soundMarks m ≡ true

@@ -5,12 +5,11 @@ use mathlib.Core.Logic.{_⊎_, inl, inr}
 use mathlib.Core.List.{List}
 use Prim.Native.Nat.{ℕ, _+_, _*_, _/_, _%_, _≤_, _<_}
 use native.Mathlib.Omega.{arith}
-use borrow.Author.Tests.{eqb-true, eq-eqb, ne-eqb, eqb-false}
+use borrow.Author.Tests.{eqb-true, eq-eqb, eqb-false}
 use lib.Dec.{eqb}
 use Rattle.model.specs.Numbers.{codeOf}
 use Rattle.model.specs.Books.{Split, partnerIn, partnerOf, lineIn, soundSplits}
 use Rattle.model.specs.declared.Marks.{Marks}
-use Rattle.model.proofs.Lists.{clash}
 use Rattle.model.proofs.Partners.{Names, sound-codes, partner-below, names-alone, names-paired}
 use Rattle.model.specs.declared.Tn.{Tn}
 use Rattle.books.specs.declared.Names as declared
@@ -47,7 +46,8 @@ pub partner-split : (bs : List ℕ) (tn : Tn) (c d : ℕ) → c ≡ codeOf tn �
 unfolding partnerOf
 partner-split bs tn c d e h = h (record { present = 0; local = 0 }) ∙ ap (λ (x : ℕ). partnerIn x (splitsOf bs)) e
 
-module _ (xs : List Split) (s : soundSplits xs ≡ true) (tn : Tn) (small : tn .0 < 17179869184) (d : ℕ) (q : d ≡ partnerIn (tn .0 / 10000) xs) where
+module _ (xs : List Split) (s : soundSplits xs ≡ true) (tn : Tn) (small : tn .0 < 17179869184) (d : ℕ)
+    (q : d ≡ partnerIn (tn .0 / 10000) xs) where
   abbrev Pair : Tn → Tn → declared.Names
   Pair a b = record { low = a; high = b }
 

@@ -46,7 +46,15 @@ module _ (c : ℕ) (w : ℕ → ℕ) (n i x : ℕ) (h : i < n) (hx : x ≡ w i) 
 
   module _ (e : (eqb x 0 || eqb (x / 2 ^ 32) c) ≡ false) where
     pub partner-other : x % 2 ^ 32 ≡ c → partnerBy c (restOf w n i) ≡ x / 2 ^ 32
-    partner-other q = rw (used (neither (eqb x 0) (eqb (x / 2 ^ 32) c) e .0), neither (eqb x 0) (eqb (x / 2 ^ 32) c) e .1, eq-eqb (x % 2 ^ 32) c q)
+    partner-other q = rw (
+      used (neither (eqb x 0) (eqb (x / 2 ^ 32) c) e .0),
+      neither (eqb x 0) (eqb (x / 2 ^ 32) c) e .1,
+      eq-eqb (x % 2 ^ 32) c q,
+    )
 
     pub partner-next : (x % 2 ^ 32 ≡ c → ⊥) → partnerBy c (restOf w n i) ≡ partnerBy c (restOf w n (i + 1))
-    partner-next q = rw (used (neither (eqb x 0) (eqb (x / 2 ^ 32) c) e .0), neither (eqb x 0) (eqb (x / 2 ^ 32) c) e .1, ne-eqb (x % 2 ^ 32) c q)
+    partner-next q = rw (
+      used (neither (eqb x 0) (eqb (x / 2 ^ 32) c) e .0),
+      neither (eqb x 0) (eqb (x / 2 ^ 32) c) e .1,
+      ne-eqb (x % 2 ^ 32) c q,
+    )

@@ -46,7 +46,8 @@ pub fn lent(l: Listed, books: &[u8], table: &[u8]) -> Soundness
 
 // The same as an answer.
 pub fn table_check(table: &[u8], providers: &[u8], books: &[u8]) -> Answer
-    ensures { λ r. ⌜ r ≡ checkedTable (soundnessLent (listed (map entryOf (now (providers .entry)))) (now (books .entry)) (now (table .entry))) ⌝ }
+    ensures { λ r. ⌜ r ≡ checkedTable
+        (soundnessLent (listed (map entryOf (now (providers .entry)))) (now (books .entry)) (now (table .entry))) ⌝ }
 {
     let l = providers::marks_of_bytes(providers);
     let verdict = lent(l, books, table);

@@ -13,13 +13,12 @@ use lib.Seq.{take-all, take-suc-set, getD-at}
 use Rattle.model.specs.Selection.{classNumber}
 use Rattle.model.specs.declared.Class.{Class}
 use Rattle.model.specs.Numbers.{tenDigits, codeOf}
-use Rattle.model.specs.declared.Tn.{Tn}
 use Rattle.providers.specs.Providers.{listed, entryOf}
 use Rattle.providers.specs.declared.Listed.{Listed}
 use Rattle.books.specs.Packed.{decodeBooks, soundBytes}
 use Rattle.selection.specs.Classes.{classIn, Classed}
 use Rattle.selection.specs.declared.Classes.{Classes}
-use Rattle.classes.specs.Classes.{numbersOf, soundLists, answerFor, Classified}
+use Rattle.classes.specs.Classes.{numbersOf, answerFor, Classified}
 
 -- nothing is written yet
 pub none-yet : (f : ℕ → Class) (out : List ℕ) → take 0 out ≡ numbersOf f 0

@@ -2,27 +2,25 @@
 -- Assumes nothing.
 use mathlib.Core.Path.{_≡_, refl, sym, ap, ap₂, _∙_, subst}
 use Prim.Native.Nat.{ℕ, zero, suc, _+_, _≤_}
-use mathlib.Core.Bool.{Bool, true, false, cond, _&&_}
+use mathlib.Core.Bool.{Bool, true, false}
 use mathlib.Core.List.{List, [], _∷_, _++_, map}
 use lib.ListN.{length}
 use borrow.Author.Tests.{le-leb}
 use Rattle.model.specs.Basics.{All, none, with}
 use Rattle.model.specs.Outcomes.{isDone, numberOf}
 use Rattle.model.specs.Record.{wellFormed}
-use Rattle.model.specs.Table.{changes}
 use Rattle.model.specs.Sound.{soundTable}
-use Rattle.model.specs.Given.{Result, refuse}
+use Rattle.model.specs.Given.{Result}
 use Rattle.model.specs.Step.{Setting, unsound, stepOf, after, final, outcomes, messages}
 use Rattle.model.specs.Step as model
-use Rattle.model.specs.Exchange.{Exchangeable, MayAt, May, reorder, swapAt, mailOf, Premises, Same}
+use Rattle.model.specs.Exchange.{Exchangeable, MayAt, May, reorder, swapAt, mailOf, Same}
 use Rattle.model.proofs.Lists.{clash}
 use Rattle.model.proofs.SoundTables.{says-table, table-says}
-use Rattle.model.proofs.Reordering.{Sane, sane-of, of-sane}
+use Rattle.model.proofs.Reordering.{sane-of, of-sane}
 use Rattle.model.proofs.Theorems.{stays-sound, refusal-changes-nothing, demand3}
 use Rattle.model.specs.declared.Version.{Version}
 use Rattle.model.specs.declared.Event.{Event}
 use Rattle.model.specs.declared.Message.{Message}
-use Rattle.model.specs.declared.Outcome.{Outcome}
 use Rattle.model.specs.declared.Reading.{Reading}
 use Rattle.model.specs.declared.Reading.the-variants.{Record, Malformed}
 use Rattle.packing.specs.Layout.{readEvent}
@@ -41,8 +39,8 @@ use Rattle.checks.proofs.Lending.{lent-says, says-lent}
 use Rattle.table.proofs.Steps.{says-again, rows-again}
 use Rattle.tray.specs.Tray.{placesIn}
 use Rattle.engine.specs.Event.{tableAfter}
-use Rattle.engine.specs.Step.{settingOf, isTable, resultIn, resultOf}
-use Rattle.engine.specs.Demands.{isRecord, fieldsIn, tableBy, tableAtEnd, numbersIn, messagesIn, Lent, SameBytes, Exchanged}
+use Rattle.engine.specs.Step.{resultIn, resultOf}
+use Rattle.engine.specs.Demands.{isRecord, fieldsIn, tableBy, tableAtEnd, numbersIn, messagesIn, SameBytes}
 use Rattle.engine.specs.Demands.{ByteDemand3}
 
 -- ---- records
@@ -111,7 +109,13 @@ module _ (p b : List ℕ) (most : ℕ) (y : List ℕ) (rows : ℕ) where
 
       pub at : (e : List ℕ) → isRecord (readEvent e) ≡ true → resultOf p b most e (encode vs rows) y ≡ stepOf S (fieldsIn e) vs
       unfolding resultIn
-      at e f = rw (says-lent L b (encode vs rows) hl hb, says-sound-in b vs rows lined, record-is e f, says-again vs rows sound, rows-again vs rows sound)
+      at e f = rw (
+        says-lent L b (encode vs rows) hl hb,
+        says-sound-in b vs rows lined,
+        record-is e f,
+        says-again vs rows sound,
+        rows-again vs rows sound,
+      )
 
       pub next : (e : List ℕ) → isRecord (readEvent e) ≡ true
           → tableBy p b most y e (encode vs rows) ≡ encode (after (stepOf S) (fieldsIn e) vs) rows

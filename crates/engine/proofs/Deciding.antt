@@ -4,10 +4,10 @@ use mathlib.Core.Path.{_≡_, refl, sym, ap, ap₂, _∙_, subst}
 use Prim.Native.Nat.{ℕ, _^_, _<_, _≤_}
 use native.Mathlib.Omega.{arith}
 use mathlib.Core.Bool.{Bool, true, false, cond}
-use mathlib.Core.Option.{none, some}
+use mathlib.Core.Option.{some}
 use mathlib.Core.List.{List, [], _∷_}
 use lib.Dec.{eqb, ltb}
-use lib.ListN.{length, getD}
+use lib.ListN.{length}
 use borrow.Author.Tests.{eqb-true, ltb-true, le-leb}
 use Rattle.model.specs.Basics.{All, none as nothing, with}
 use Rattle.systems.specs.Set.{maskOf}
@@ -36,14 +36,14 @@ use Rattle.rows.specs.Table.{decode, encode}
 use Rattle.scan.specs.Sound.{rowsIn, SoundTable}
 use Rattle.lines.specs.Lines.{lineBy}
 use Rattle.lines.proofs.Meaning.{table-lines}
-use Rattle.table.specs.Survey.{Surveyed, rowsUnder, theOne, listOf, versionAt}
+use Rattle.table.specs.Survey.{Surveyed, rowsUnder, theOne, listOf}
 use Rattle.table.specs.Change.{Over, Applicable}
 use Rattle.table.specs.declared.survey.Facts.{Facts}
 use Rattle.table.specs.declared.survey.Seen.{Seen}
 use Rattle.table.specs.declared.survey.Seen.the-variants as seen
 use Rattle.table.proofs.Asked.{besides-live, fresh-absent}
 use Rattle.table.proofs.Surveys.{former-of, asked-of}
-use Rattle.tray.specs.Tray.{Small, Fits, placesIn, putAll, Told}
+use Rattle.tray.specs.Tray.{Small, Fits, putAll, Told}
 use Rattle.verdict.specs.Verdict.{changesOf, messagesOf}
 use Rattle.verdict.specs.declared.Rows.{Rows}
 use Rattle.verdict.specs.declared.Rows.the-variants.{Nothing, Put, PutTwo, Add, Strike}
@@ -52,7 +52,7 @@ use Rattle.rules.specs.Rules.{Holds, Sits, Says, Kept, givenBy, Facing, Decides
 use Rattle.rules.specs.declared.Known.{Known}
 use Rattle.outcomes.specs.Answered.{answerOf}
 use Rattle.outcomes.specs.declared.Answer.{Answer}
-use Rattle.engine.specs.Event.{Ready, Did, KnownTo, lineRows, givenTo, tableAfter}
+use Rattle.engine.specs.Event.{Ready, Did, KnownTo, lineRows, givenTo}
 use Rattle.engine.proofs.Posting.{rule-mail}
 use Rattle.model.specs.declared.Tn.{Tn}
 use Rattle.model.specs.declared.Event.{Event}
@@ -90,7 +90,8 @@ module _ (m : Marks) (b : List ℕ) (most : ℕ) (t : List ℕ) (n : ℕ) (e : E
   pub rule-rows : All (Brings Row) (rule G .does)
   rule-rows =
       rw formed at
-      (keeps-rule (lineBy b) (record { books = decodeBooks m b; most = most; rows = 0; places = 0 }) (le-leb most 7 few) (G .free) e (G .rows)
+      (keeps-rule (lineBy b) (record { books = decodeBooks m b; most = most; rows = 0; places = 0 }) (le-leb most 7 few)
+      (G .free) e (G .rows)
       ground .rows)
 
 -- ---- rows that sit and fit may be changed

@@ -15,7 +15,6 @@ use Rattle.model.specs.Step as model
 use Rattle.model.proofs.Lists.{clash}
 use Rattle.model.proofs.Theorems.{done-sound, refusal-sends-nothing, at-most-63}
 use Rattle.model.specs.declared.Version.{Version}
-use Rattle.model.specs.declared.Event.{Event}
 use Rattle.model.specs.declared.Outcome.{Outcome}
 use Rattle.model.specs.declared.Outcome.the-variants as outcome
 use Rattle.model.specs.declared.Reading.{Reading}

@@ -184,7 +184,8 @@ rule-mail g rows formed = by-order Mails g (λ _. accepted-mail) (λ _. record {
     accepted-mail = by-kind Mails g (record {
       create = λ _. creates-mail (g .event) (g .rows);
       answer = λ _ a v q.
-          answers-mail (g .most) (g .event) v (rest g) (all-first (numbered (g .event .version)) v rows q) (answering-named (g .event) formed a .1);
+          answers-mail (g .most) (g .event) v (rest g) (all-first (numbered (g .event .version)) v rows q)
+          (answering-named (g .event) formed a .1);
       manage = λ _ _ v _. manages-mail (g .books) (g .event) v (rest g);
       unknown = record { fit = λ h. none };
     })

@@ -1,17 +1,16 @@
 -- The step over bytes: when outcome 1 or 2 comes, and when it is the rule's.
 -- Assumes nothing.
 use mathlib.Core.Path.{_≡_, refl, sym, ap, _∙_, subst}
-use Prim.Native.Nat.{ℕ, _<_, _≤_}
+use Prim.Native.Nat.{ℕ, _≤_}
 use native.Mathlib.Omega.{arith}
-use mathlib.Core.Bool.{Bool, true, false, cond, not}
-use mathlib.Core.List.{List, map}
-use lib.Dec.{ltb, leb}
+use mathlib.Core.Bool.{Bool, true, false, cond}
+use mathlib.Core.List.{List}
+use lib.Dec.{leb}
 use borrow.Author.Tests.{leb-true}
-use Rattle.model.specs.Books.{soundBooks, soundRetries}
+use Rattle.model.specs.Books.{soundBooks}
 use Rattle.model.specs.Sound.{soundLines, soundTable}
-use Rattle.model.specs.Record.{wellFormed}
 use Rattle.model.specs.Given.{Result, refuse}
-use Rattle.model.specs.Step.{Setting, unsound, line, given, whenRead, rule}
+use Rattle.model.specs.Step.{unsound, line, given, whenRead, rule}
 use Rattle.model.specs.Step as model
 use Rattle.model.proofs.Lists.{clash, and-l, and-r}
 use Rattle.model.specs.declared.Reading.{Reading}
@@ -35,7 +34,6 @@ use Rattle.outcomes.specs.declared.Answer.{Answer}
 use Rattle.checks.specs.Checks.{fitting, soundnessLent}
 use Rattle.engine.specs.Step.{settingOf, resultIn}
 use Rattle.model.specs.declared.Event.{Event}
-use Rattle.model.specs.declared.Marks.{Marks}
 
 pub did-refuse : (x : Result) (o : Outcome) (k : ℕ) (t y : List ℕ) → x ≡ refuse o → (k ≡ 1) × (o ≡ outcome.Unsound)
     → Did x t y t y (record { outcome = k; count = 0 })

@@ -1,13 +1,12 @@
 -- What is proved of one step, and of many, over bytes. Each statement speaks of `resultOf`, which the promise of the step cites.
 -- Assumes nothing.
-use mathlib.Core.Path.{_≡_, refl, sym, ap, ap₂, _∙_, subst}
+use mathlib.Core.Path.{_≡_, sym, ap, ap₂, _∙_, subst}
 use Prim.Native.Nat.{ℕ, _≤_}
 use mathlib.Core.Bool.{Bool, true, false}
 use mathlib.Core.List.{List, [], map}
 use lib.ListN.{length}
 use Rattle.model.specs.Given.{Result}
 use Rattle.model.specs.Outcomes.{isDone}
-use Rattle.model.specs.declared.Message.{Message}
 use Rattle.providers.specs.Providers.{listed, entryOf}
 use Rattle.checks.specs.Checks.{soundnessLent}
 use Rattle.scan.specs.declared.Soundness.the-variants.{Sound}
@@ -16,7 +15,7 @@ use Rattle.tray.proofs.Laws.{tray-reads}
 use Rattle.octets.specs.Octets.{Bytes}
 use Rattle.packing.specs.Layout.{readEvent}
 use Rattle.outcomes.specs.declared.Answer.{Answer}
-use Rattle.engine.specs.Event.{Did, tableAfter}
+use Rattle.engine.specs.Event.{Did}
 use Rattle.engine.specs.Step.{resultIn, resultOf}
 use Rattle.engine.specs.Demands.{isRecord, ByteDemand3}
 use Rattle.model.proofs.Outcomes.{zero-done, other-refused}

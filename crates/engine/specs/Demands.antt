@@ -52,7 +52,8 @@ module _ (p b : List ℕ) (most : ℕ) (y : List ℕ) where
   messagesIn [] t = []
   messagesIn (e ∷ es) t = resultOf p b most e t y .sent ++ messagesIn es (tableBy e t)
 
-  -- Well-formed records, R of 0 to 7, a tray of 64, and a table that is sound with provider list and books, with as many free rows as records.
+  -- Well-formed records, R of 0 to 7, a tray of 64, and a table that is sound with provider list and books, with as many free rows as
+  -- records.
   pub record Lent (es : List (List ℕ)) (t : List ℕ) (used : ℕ) : Type 0 where
     pub bytes : Bytes t
     pub table : soundnessLent (listed (map entryOf p)) b t ≡ Sound used

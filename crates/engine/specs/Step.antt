@@ -17,6 +17,8 @@ use Rattle.scan.specs.declared.Soundness.the-variants.{Unsound, Sound}
 use Rattle.tray.specs.Tray.{placesIn}
 use Rattle.model.specs.declared.Marks.{Marks}
 use Rattle.model.specs.declared.Outcome.the-variants as outcome
+use Rattle.outcomes.specs.declared.Answer.{Answer}
+use Rattle.engine.specs.Event.{Did}
 
 abbrev pub settingOf : Marks → List ℕ → ℕ → List ℕ → List ℕ → Setting
 settingOf m b most t y = record { books = decodeBooks m b; most = most; rows = rowsIn t; places = placesIn y }
@@ -37,3 +39,7 @@ resultIn l b most e t y =
 -- the same with the provider list as bytes
 abbrev pub resultOf : List ℕ → List ℕ → ℕ → List ℕ → List ℕ → List ℕ → Result
 resultOf p = resultIn (listed (map entryOf p))
+
+-- A step with this provider list, these books, this R and this event: what it answers, and what table and tray hold after it.
+abbrev pub Stepped : Listed → List ℕ → ℕ → List ℕ → (table tray after trayAfter : List ℕ) → Answer → Type 0
+Stepped l b most e t y after trayAfter a = Did (resultIn l b most e t y) t y after trayAfter a

@@ -41,7 +41,8 @@ fn owner(marks: Marks, books: &[u8], e: Event) -> u8
 // Whom a broadcast of the version asks, by the TN of its row; no other kind does.
 fn selected(marks: Marks, books: &[u8], e: Event, asked: Seen) -> u64
     requires { ⌜ soundBytes marks (now books) ≡ true ⌝ }
-    ensures { λ r. ⌜ (isBroadcast (e .kind) ≡ true → (v : Version) → theOne asked ≡ some v → r ≡ selectedFor (decodeBooks marks (now (books .entry))) (v .id .tn)) ⌝ }
+    ensures { λ r. ⌜ (isBroadcast (e .kind) ≡ true → (v : Version) → theOne asked ≡ some v
+        → r ≡ selectedFor (decodeBooks marks (now (books .entry))) (v .id .tn)) ⌝ }
 {
     if opening::is_broadcast(e.kind) {
         if let Seen::One(_, v) = asked {
@@ -70,7 +71,8 @@ fn known(marks: Marks, books: &[u8], most: u8, free: bool, e: Event, asked: Seen
 fn surveyed(books: &[u8], table: &[u8], n: usize, e: Event) -> Facts
     requires { ⌜ SoundTable (now table) n ⌝ }
     requires { ⌜ (length (now books) ≡ bookBytes) × (soundSplits (splitsOf (now books)) ≡ true) × (e .tn .0 < 17179869184) ⌝ }
-    ensures { λ r. ⌜ Surveyed (decode (now (table .entry))) (lineRows (now (books .entry)) e (decode (now (table .entry)))) (e .version) (isCreate (e .kind)) r ⌝ }
+    ensures { λ r. ⌜ Surveyed (decode (now (table .entry))) (lineRows (now (books .entry)) e (decode (now (table .entry)))) (e .version)
+        (isCreate (e .kind)) r ⌝ }
 {
     let tn = e.tn;
     let line = books::line_names(books, tn);
@@ -90,8 +92,10 @@ pub fn on_event(
     tray: &mut [u8],
 ) -> Answer
     requires { ⌜ SoundTable (now table) n ⌝ }
-    requires { ⌜ Ready marks (now books) e (placesIn (now tray)) × (most ≤ 7) × (soundLines (lineBy (now books)) (decode (now table)) ≡ true) ⌝ }
-    ensures { λ r. ⌜ Did (rule (givenTo marks (now (books .entry)) most (now (table .entry)) e)) (now (table .entry)) (now (tray .entry)) (now (table .exit)) (now (tray .exit)) r ⌝ }
+    requires { ⌜ Ready marks (now books) e (placesIn (now tray)) × (most ≤ 7)
+        × (soundLines (lineBy (now books)) (decode (now table)) ≡ true) ⌝ }
+    ensures { λ r. ⌜ Did (rule (givenTo marks (now (books .entry)) most (now (table .entry)) e)) (now (table .entry)) (now (tray .entry))
+        (now (table .exit)) (now (tray .exit)) r ⌝ }
 {
     let f = surveyed(books, table, n, e);
     let asked = f.asked;

@@ -6,12 +6,13 @@ use providers::Listed;
 use scan::Soundness;
 ghost use mathlib.Core.Path.{_≡_};
 ghost use mathlib.Core.Bool.{true};
+ghost use mathlib.Core.List.{map};
+ghost use Rattle.providers.specs.Providers.{listed, entryOf};
 ghost use Rattle.scan.specs.Sound.{SoundTable};
 ghost use Rattle.scan.specs.declared.Soundness.the-variants.{Sound};
 ghost use Rattle.tray.specs.Tray.{placesIn};
-ghost use Rattle.engine.specs.Event.{Did};
 ghost use Rattle.checks.specs.Checks.{fitting, soundnessLent};
-ghost use Rattle.engine.specs.Step.{resultIn, resultOf};
+ghost use Rattle.engine.specs.Step.{Stepped};
 
 // A record on a table that is sound with its books, where all else fits.
 pub fn on_fitting(
@@ -25,7 +26,8 @@ pub fn on_fitting(
 ) -> Answer
     requires { ⌜ SoundTable (now table) n ⌝ }
     requires { ⌜ (soundnessLent l (now books) (now table) ≡ Sound n) × (fitting most (placesIn (now tray)) ≡ true) ⌝ }
-    ensures { λ r. ⌜ Did (resultIn l (now (books .entry)) most (now (event .entry)) (now (table .entry)) (now (tray .entry))) (now (table .entry)) (now (tray .entry)) (now (table .exit)) (now (tray .exit)) r ⌝ }
+    ensures { λ r. ⌜ Stepped l (now (books .entry)) most (now (event .entry))
+        (now (table .entry)) (now (tray .entry)) (now (table .exit)) (now (tray .exit)) r ⌝ }
 {
     let said = record::read(event);
     match said {
@@ -49,7 +51,8 @@ fn on_table(
 ) -> Answer
     requires { ⌜ SoundTable (now table) n ⌝ }
     requires { ⌜ soundnessLent l (now books) (now table) ≡ Sound n ⌝ }
-    ensures { λ r. ⌜ Did (resultIn l (now (books .entry)) most (now (event .entry)) (now (table .entry)) (now (tray .entry))) (now (table .entry)) (now (tray .entry)) (now (table .exit)) (now (tray .exit)) r ⌝ }
+    ensures { λ r. ⌜ Stepped l (now (books .entry)) most (now (event .entry))
+        (now (table .entry)) (now (tray .entry)) (now (table .exit)) (now (tray .exit)) r ⌝ }
 {
     let places = tray::places(tray);
     let fits = checks::fit(most, places);
@@ -71,7 +74,8 @@ pub fn step_listed(
     event: &[u8],
     tray: &mut [u8],
 ) -> Answer
-    ensures { λ r. ⌜ Did (resultIn l (now (books .entry)) most (now (event .entry)) (now (table .entry)) (now (tray .entry))) (now (table .entry)) (now (tray .entry)) (now (table .exit)) (now (tray .exit)) r ⌝ }
+    ensures { λ r. ⌜ Stepped l (now (books .entry)) most (now (event .entry))
+        (now (table .entry)) (now (tray .entry)) (now (table .exit)) (now (tray .exit)) r ⌝ }
 {
     let verdict = checks::lent(l, books, table);
     match verdict {
@@ -92,7 +96,8 @@ pub fn step(
     event: &[u8],
     tray: &mut [u8],
 ) -> Answer
-    ensures { λ r. ⌜ Did (resultOf (now (providers .entry)) (now (books .entry)) most (now (event .entry)) (now (table .entry)) (now (tray .entry))) (now (table .entry)) (now (tray .entry)) (now (table .exit)) (now (tray .exit)) r ⌝ }
+    ensures { λ r. ⌜ Stepped (listed (map entryOf (now (providers .entry)))) (now (books .entry)) most (now (event .entry))
+        (now (table .entry)) (now (tray .entry)) (now (table .exit)) (now (tray .exit)) r ⌝ }
 {
     let l = providers::marks_of_bytes(providers);
     step_listed(table, l, books, most, event, tray)

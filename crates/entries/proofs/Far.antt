@@ -12,7 +12,8 @@ use Rattle.entries.specs.Good.{goodFilter}
 
 -- no provider has a number above 63
 pub far : (m : Marks) (last x : ℕ) → 63 < x / 2 ^ 20 → goodFilter m last x ≡ false
-far m last x h = rw (lt-leb (x / 2 ^ 20) 63 h) (off (ltb last x) (leb 1 (x / 2 ^ 20)) (member (m .present) (x / 2 ^ 20)) (isCode (x % 2 ^ 20)))
+far m last x h = rw (lt-leb (x / 2 ^ 20) 63 h)
+    (off (ltb last x) (leb 1 (x / 2 ^ 20)) (member (m .present) (x / 2 ^ 20)) (isCode (x % 2 ^ 20)))
   where
     off : (a b c d : Bool) → (a && (b && false && c && d)) ≡ false
     off true true c d = refl

@@ -1,7 +1,7 @@
 -- Laws of the search for a fault: what place i leaves to the next, for n places in all.
 -- Assumes nothing.
 use Prim.Native.Nat.{ℕ, zero, suc, _+_, _-_, _≤_, _<_}
-use mathlib.Core.Path.{_≡_, refl, sym, ap, _∙_}
+use mathlib.Core.Path.{_≡_, refl, sym, _∙_}
 use mathlib.Core.Bool.{Bool, true, false, cond, not, _&&_, false≢true}
 use mathlib.Core.List.{List, [], _∷_}
 use native.Mathlib.Numerals.{add-one}
@@ -9,7 +9,6 @@ use native.Mathlib.Omega.{arith}
 use borrow.Author.Tests.{eq-eqb, ne-eqb, lt-ltb, le-ltb, leb-true, leb-false}
 use lib.Dec.{eqb, ltb, leb}
 use Rattle.faults.specs.declared.Found.{Found}
-use Rattle.faults.specs.declared.Fault.{Fault}
 use Rattle.faults.specs.Faults.{Clause, foundAt, firstBroken, before, nearest, firstFault, at, faultless, isFaultless}
 
 -- ---- the search for a fault
@@ -87,7 +86,8 @@ allHold [] = true
 allHold (c ∷ cs) = c .holds && allHold cs
 
 -- none is broken exactly where all hold, and nothing is found in the rest
-pub none-broken : (cs : List Clause) (rest : Found) → numbered cs ≡ true → eqb (firstBroken cs rest .clause) 0 ≡ (allHold cs && eqb (rest .clause) 0)
+pub none-broken : (cs : List Clause) (rest : Found) → numbered cs ≡ true
+    → eqb (firstBroken cs rest .clause) 0 ≡ (allHold cs && eqb (rest .clause) 0)
 none-broken [] rest h = refl
 none-broken (c ∷ cs) rest h = go (c .holds) (none-broken cs rest (on (eqb (c .number) 0) (numbered cs) h))
   where

@@ -44,7 +44,8 @@ unfolding handedTo handedNumber
 handed-malformed r xs q = record { after = rw q; said = rw q }
 
 -- what a reading of a record hands to ten places
-pub handed-is : (r : Reading) (e : Event) (xs ys : List ℕ) (n : ℕ) → r ≡ Record e → length xs ≡ 10 → Handed r xs ys n → (ys ≡ tenOf e) × (n ≡ 0)
+pub handed-is : (r : Reading) (e : Event) (xs ys : List ℕ) (n : ℕ) → r ≡ Record e → length xs ≡ 10 → Handed r xs ys n
+    → (ys ≡ tenOf e) × (n ≡ 0)
 unfolding handedTo handedNumber
 handed-is r e xs ys n q l h =
     (h .after ∙ rw q (simp (eq-eqb (length xs) 10 l)), h .said ∙ rw q (simp (eq-eqb (length xs) 10 l)))
@@ -61,7 +62,8 @@ handed-done Malformed xs ys h = absurd (omega (arith, h .said))
 -- ---- writing
 
 -- fields that fit their bits fit their types
-pub narrow : (e : Event) (b : Bool) → b ≡ fitsBits e → b ≡ true → Narrow (e .kind) (e .sender) (e .other) (e .mark) (e .cause) (e .version) (e .time) (e .due)
+pub narrow : (e : Event) (b : Bool) → b ≡ fitsBits e → b ≡ true
+    → Narrow (e .kind) (e .sender) (e .other) (e .mark) (e .cause) (e .version) (e .time) (e .due)
 narrow e b q f =
     let at = bits-at e (sym q ∙ f) in
     let s : e .sender < 64 = at 1 in

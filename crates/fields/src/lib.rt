@@ -100,8 +100,8 @@ fn narrowed(
     }
 }
 
-// Writes the record of ten fields to 24 bytes, and 0; 2 where they are malformed, a number is too wide for its field, or the bytes are not 24,
-// and nothing is written.
+// Writes the record of ten fields to 24 bytes, and 0; 2 where they are malformed, a number is too wide for its field, or the bytes are not
+// 24, and nothing is written.
 pub fn write(
     kind: u64,
     sender: u64,

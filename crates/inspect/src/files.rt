@@ -1,4 +1,5 @@
-// The three files that the arguments name, and what is said where one cannot be had: on standard error, each line with 'inspect: ' before it.
+// The three files that the arguments name, and what is said where one cannot be had: on standard error, each line with 'inspect: ' before
+// it.
 use libc::STDERR_FILENO;
 
 // No number of bytes that a file has.

@@ -1,4 +1,5 @@
-// What is said of a fault: a line of text for each clause, by its number, with a '#' for each number that it names. docs/FAULTS.md has them all.
+// What is said of a fault: a line of text for each clause, by its number, with a '#' for each number that it names. docs/FAULTS.md has them
+// all.
 use libc::STDOUT_FILENO;
 
 pub fn put(text: &[u8]) {

@@ -14,7 +14,8 @@ use Rattle.model.specs.Record.{isCreate, isAnswer}
 use Rattle.model.specs.Outcomes.{judge, orderOf}
 use Rattle.model.specs.Given.{Given, found, lastStamp}
 use Rattle.model.specs.Creates.{currentFor}
-use Rattle.model.specs.Refusals.{absent, beforeDue, early, busy, busyWith, unawaited, notCurrent, unfit, anotherDue, exhausted, full, refuses}
+use Rattle.model.specs.Refusals.{absent, beforeDue, early, busy, busyWith, unawaited, notCurrent, unfit, anotherDue, exhausted, full}
+use Rattle.model.specs.Refusals.{refuses}
 use Rattle.model.proofs.Lists.{clash}
 use Rattle.model.specs.declared.Event.{Event}
 use Rattle.model.specs.declared.Version.{Version}

@@ -2,11 +2,10 @@
 -- Assumes nothing.
 use Prim.Native.Nat.{ℕ}
 use mathlib.Core.Bool.{Bool, true, false, cond, not, _&&_, _||_}
-use mathlib.Core.Option.{Option, none, some}
 use mathlib.Core.List.{List, [], _∷_}
 use lib.Dec.{eqb, ltb, leb}
 use Rattle.model.specs.Numbers.{lastNumber}
-use Rattle.model.specs.Basics.{among, holds, isNone}
+use Rattle.model.specs.Basics.{holds, isNone}
 use Rattle.model.specs.Record.{isBroadcast}
 use Rattle.model.specs.Sound.{failure}
 use Rattle.model.specs.Standing.{lacksStanding, wrongStatus}

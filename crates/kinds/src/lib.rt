@@ -1,7 +1,9 @@
 // What a record's kind asks of its fields. [E2 to E5]
 ghost use mathlib.Core.Path.{_≡_};
 ghost use Rattle.model.specs.Numbers.{tenDigits};
-ghost use Rattle.model.specs.Record.{twoSides, authorizes as authorizesWith, newCreates, oldCreates, newModifies, oldModifies, modifiesActive, replies as repliesTo, silent as silentOf, plainly as plainlyOf, kindFits, fitsBits, wellFormed};
+ghost use Rattle.model.specs.Record.{twoSides, authorizes as authorizesWith, newCreates, oldCreates, newModifies, oldModifies};
+ghost use Rattle.model.specs.Record.{modifiesActive, replies as repliesTo, silent as silentOf, plainly as plainlyOf, kindFits, fitsBits};
+ghost use Rattle.model.specs.Record.{wellFormed};
 use model::Event;
 use model::Lrn;
 use model::Tn;

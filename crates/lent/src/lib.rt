@@ -1,7 +1,6 @@
 // One step with the provider list lent as records. [B1, F7]
 ghost use Rattle.providers.specs.Providers.{listed};
-ghost use Rattle.engine.specs.Event.{Did};
-ghost use Rattle.engine.specs.Step.{resultIn};
+ghost use Rattle.engine.specs.Step.{Stepped};
 use model::Provider;
 use outcomes::Answer;
 
@@ -14,7 +13,8 @@ pub fn step_of_list(
     event: &[u8],
     tray: &mut [u8],
 ) -> Answer
-    ensures { λ r. ⌜ Did (resultIn (listed (now (list .entry))) (now (books .entry)) most (now (event .entry)) (now (table .entry)) (now (tray .entry))) (now (table .entry)) (now (tray .entry)) (now (table .exit)) (now (tray .exit)) r ⌝ }
+    ensures { λ r. ⌜ Stepped (listed (now (list .entry))) (now (books .entry)) most (now (event .entry))
+        (now (table .entry)) (now (tray .entry)) (now (table .exit)) (now (tray .exit)) r ⌝ }
 {
     let l = providers::marks_of_list(list);
     engine::step::step_listed(table, l, books, most, event, tray)

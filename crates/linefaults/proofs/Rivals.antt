@@ -1,5 +1,5 @@
--- The search for a row that collides with another of its line: what row j - 1 leaves to those before it, the names of the line instead of the line,
--- and the rows that have no rival. Assumes nothing.
+-- The search for a row that collides with another of its line: what row j - 1 leaves to those before it, the names of the line instead of
+-- the line, and the rows that have no rival. Assumes nothing.
 use Prim.Native.Nat.{ℕ, _+_, _-_, _<_}
 use mathlib.Core.Path.{_≡_, refl, sym, ap, _∙_}
 use mathlib.Core.Bool.{Bool, true, false, cond, _&&_, _||_, false≢true}
@@ -51,7 +51,8 @@ module _ (n low high : ℕ) (vs : List Version) (v : Version) where
     pub rival-here : ((eqb (u .id .tn .0) low || eqb (u .id .tn .0) high) && b) ≡ true → j ≡ rivalUnder n low high vs v j
     rival-here y = sym (rw back at (nearest-here meets (j - 1) (told ∙ y)))
 
-    pub rival-next : ((eqb (u .id .tn .0) low || eqb (u .id .tn .0) high) && b) ≡ false → rivalUnder n low high vs v j ≡ rivalUnder n low high vs v (j - 1)
+    pub rival-next : ((eqb (u .id .tn .0) low || eqb (u .id .tn .0) high) && b) ≡ false
+        → rivalUnder n low high vs v j ≡ rivalUnder n low high vs v (j - 1)
     rival-next y = rw back at (nearest-next meets (j - 1) (told ∙ y))
 
 -- ---- versions that may stand in one line do not collide
@@ -64,7 +65,8 @@ clear-apart n u v c = go (eqb n 33) (eqb n 34) (eqb n 35)
     off true false f = refl
     off false b f = refl
 
-    go : (x y z : Bool) → cond x (live u && live v) (cond y (sends u && sends v) (cond z (worked u && worked v) (eqb (u .id .number) (v .id .number)))) ≡ false
+    go : (x y z : Bool) → cond x (live u && live v)
+        (cond y (sends u && sends v) (cond z (worked u && worked v) (eqb (u .id .number) (v .id .number)))) ≡ false
     go true y z = off (live u) (live v) (c .lives)
     go false true z = off (sends u) (sends v) (c .sent)
     go false false true = off (worked u) (worked v) (c .work)
@@ -72,15 +74,18 @@ clear-apart n u v c = go (eqb n 33) (eqb n 34) (eqb n 35)
 
 -- ---- a row by the names of its line
 
-module _ (xs : List Split) (vs : List Version) (i : ℕ) (v : Version) (ev : v ≡ versionAt vs i) (r : Names) (named : Named xs (v .id .tn .0) r) where
+module _ (xs : List Split) (vs : List Version) (i : ℕ) (v : Version) (ev : v ≡ versionAt vs i) (r : Names)
+    (named : Named xs (v .id .tn .0) r) where
   abbrev tn : ℕ → ℕ
   tn j = versionAt vs j .id .tn .0
 
   under-line : (n : ℕ) → rivalUnder n (r .low .0) (r .high .0) vs v i ≡ rival n (lineIn xs) vs i
-  under-line n = nearest-same _ _ i (λ j k. ap (λ (b : Bool). b && collide n (versionAt vs j) v) (named .names (tn j)) ∙ ap (λ (w : Version). eqb (lineIn xs (tn j)) (lineIn xs (w .id .tn .0)) && collide n (versionAt vs j) w) ev)
+  under-line n = nearest-same _ _ i (λ j k. ap (λ (b : Bool). b && collide n (versionAt vs j) v) (named .names (tn j))
+      ∙ ap (λ (w : Version). eqb (lineIn xs (tn j)) (lineIn xs (w .id .tn .0)) && collide n (versionAt vs j) w) ev)
 
   -- what is found under the names is what is found in the line
-  pub found-under : (f : Found) → f ≡ firstBroken (underClauses (r .low .0) (r .high .0) vs v i) (foundAt 0 0) → f ≡ rowFound (lineIn xs) vs i
+  pub found-under : (f : Found) → f ≡ firstBroken (underClauses (r .low .0) (r .high .0) vs v i) (foundAt 0 0)
+      → f ≡ rowFound (lineIn xs) vs i
   unfolding rowFound
   found-under f e = e ∙ rw (under-line 33, under-line 34, under-line 35, under-line 36)
 
@@ -106,7 +111,8 @@ module _ (xs : List Split) (vs : List Version) (i : ℕ) (v : Version) (ev : v �
     unmet n j k = go (eqb (tn j) (r .low .0) || eqb (tn j) (r .high .0)) refl
       where
         go : (a : Bool) → (eqb (tn j) (r .low .0) || eqb (tn j) (r .high .0)) ≡ a → (a && collide n (versionAt vs j) v) ≡ false
-        go true y = ap (collide n (versionAt vs j)) ev ∙ clear-apart n (versionAt vs j) (versionAt vs i) (itself-clear rows vs g j i k h (own j k y))
+        go true y = ap (collide n (versionAt vs j)) ev
+            ∙ clear-apart n (versionAt vs j) (versionAt vs i) (itself-clear rows vs g j i k h (own j k y))
         go false y = refl
 
     alone : (n : ℕ) → rival n (lineIn xs) vs i ≡ 0

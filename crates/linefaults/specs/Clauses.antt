@@ -1,5 +1,5 @@
--- Where the lines of a sound table are unsound: the clauses on the rows of one line under the numbers of docs/FAULTS.md, asked of one row after
--- the other. [A3.5]
+-- Where the lines of a sound table are unsound: the clauses on the rows of one line under the numbers of docs/FAULTS.md, asked of one row
+-- after the other. [A3.5]
 -- Assumes nothing.
 use Prim.Native.Nat.{ℕ}
 use mathlib.Core.Bool.{Bool, cond, _&&_, _||_}
@@ -34,7 +34,8 @@ once n other = beside n (eqb other 0) other
 
 -- per line at most one live, one sending, one worked version, and no version number twice
 abbrev pub lineClauses : (ℕ → ℕ) → List Version → ℕ → List Clause
-lineClauses line vs i = once 33 (rival 33 line vs i) ∷ once 34 (rival 34 line vs i) ∷ once 35 (rival 35 line vs i) ∷ once 36 (rival 36 line vs i) ∷ []
+lineClauses line vs i = once 33 (rival 33 line vs i) ∷ once 34 (rival 34 line vs i) ∷ once 35 (rival 35 line vs i)
+    ∷ once 36 (rival 36 line vs i) ∷ []
 
 -- ---- the same under the two names of the row's line
 

@@ -1,6 +1,6 @@
-// Where the lines of a sound table are unsound: the first row that breaks a clause with a row before it of its line, and the first clause that it
-// breaks. docs/FAULTS.md has the numbers. It is asked where `lines` has said unsound, and goes over the rows before a row only where the row stands
-// under the larger name of its line. [A3.5]
+// Where the lines of a sound table are unsound: the first row that breaks a clause with a row before it of its line, and the first clause
+// that it breaks. docs/FAULTS.md has the numbers. It is asked where `lines` has said unsound, and goes over the rows before a row only
+// where the row stands under the larger name of its line. [A3.5]
 use books::Names;
 use faults::Fault;
 use faults::Found;
@@ -34,7 +34,8 @@ fn collide(n: u64, u: Version, v: Version) -> bool
     u.id.number == v.id.number
 }
 
-// The nearest row before row i that stands under one of the names and that clause n keeps out of one line with v, from 1; 0 where none does.
+// The nearest row before row i that stands under one of the names and that clause n keeps out of one line with v, from 1; 0 where none
+// does.
 fn rival(n: u64, t: &[u8], used: usize, names: Names, i: usize, v: Version) -> u64
     requires { ⌜ SoundTable (now t) used ⌝ }
     requires { ⌜ i ≤ used ⌝ }
@@ -71,8 +72,8 @@ fn shared(t: &[u8], n: usize, names: Names, i: usize, v: Version) -> Found
     once(33, rival(33, t, n, names, i, v), f)
 }
 
-// What row i breaks. Under the smaller name of its line it breaks nothing: the rows before it of its line have its TN, and each TN by itself is
-// sound.
+// What row i breaks. Under the smaller name of its line it breaks nothing: the rows before it of its line have its TN, and each TN by
+// itself is sound.
 fn found(books: &[u8], t: &[u8], n: usize, i: usize) -> Found
     requires { ⌜ SoundTable (now t) n ⌝ }
     requires { ⌜ (length (now books) ≡ bookBytes) × (soundSplits (splitsOf (now books)) ≡ true) ⌝ }

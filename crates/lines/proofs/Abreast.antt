@@ -1,5 +1,5 @@
--- The rows under a pair's two codes gone through side by side: the place in the one that a row of the other has reached, and what the pass finds
--- at each row. Assumes nothing.
+-- The rows under a pair's two codes gone through side by side: the place in the one that a row of the other has reached, and what the pass
+-- finds at each row. Assumes nothing.
 use mathlib.Core.Path.{_≡_, refl, sym, ap, ap₂, _∙_, subst}
 use mathlib.Core.Bool.{Bool, true, false, not, _&&_}
 use mathlib.Core.List.{List, [], _∷_}
@@ -42,7 +42,8 @@ module _ (k : ℕ) (vs : List Version) (i : ℕ) (l : i ≤ placeIn k vs) where
 
     pub reach-on : keyFor (versionAt vs i) < k → i + 1 ≤ placeIn k vs
     unfolding placeIn
-    reach-on q = subst (λ (j : ℕ). j ≤ lowerOf k (keys vs)) (sym (add-one i)) (lower-up k (keys vs) i l (simp length-map h) (omega (arith, key-is)))
+    reach-on q = subst (λ (j : ℕ). j ≤ lowerOf k (keys vs)) (sym (add-one i))
+        (lower-up k (keys vs) i l (simp length-map h) (omega (arith, key-is)))
 
 -- ---- a row beside those of its TN under the code c
 
@@ -55,8 +56,10 @@ pub fits-alone : (c : ℕ) (vs : List Version) (w : Version) → noneOf (underCo
 unfolding noneOf fits lacks spares
 fits-alone c vs w h =
     both-true (lacks (nameUnder c w) vs) (spares (underCode c (w .id .tn .0)) (heldOf w) vs)
-    (all-from (λ (v : Version). not (eqb (v .id .tn .0) (underCode c (w .id .tn .0)))) (λ (v : Version). not (hasName (nameUnder c w) v)) vs h
-    (λ v e. ap (λ (b : Bool). not (b && eqb (v .id .number) (w .id .number))) (not-true (eqb (v .id .tn .0) (underCode c (w .id .tn .0))) e)))
+    (all-from (λ (v : Version). not (eqb (v .id .tn .0) (underCode c (w .id .tn .0)))) (λ (v : Version). not (hasName (nameUnder c w) v))
+    vs h
+    (λ v e. ap (λ (b : Bool). not (b && eqb (v .id .number) (w .id .number)))
+    (not-true (eqb (v .id .tn .0) (underCode c (w .id .tn .0))) e)))
     (all-from (λ (v : Version). not (eqb (v .id .tn .0) (underCode c (w .id .tn .0))))
     (λ (v : Version). not (eqb (v .id .tn .0) (underCode c (w .id .tn .0)) && meet (heldOf v) (heldOf w))) vs h
     (λ v e. ap (λ (b : Bool). not (b && meet (heldOf v) (heldOf w))) (not-true (eqb (v .id .tn .0) (underCode c (w .id .tn .0))) e)))
@@ -94,7 +97,8 @@ module _ (c d : ℕ) (vs : List Version) where
   pub pair-unused : noneUnder c vs ≡ true → pairFits c d vs ≡ true
   unfolding pairFits noneUnder noneOf
   pair-unused h = all-every passes vs (λ w. go (under d w) (fits-alone c vs w
-      (all-from (λ (v : Version). not (under c v)) (λ (v : Version). not (eqb (v .id .tn .0) (underCode c (w .id .tn .0)))) vs h (apart w))))
+      (all-from (λ (v : Version). not (under c v)) (λ (v : Version). not (eqb (v .id .tn .0) (underCode c (w .id .tn .0))))
+      vs h (apart w))))
     where
       go : {x : Bool} (b : Bool) → x ≡ true → implies b x ≡ true
       go true q = q
@@ -119,7 +123,8 @@ module _ (c d : ℕ) (vs : List Version) where
   unfolding pairFits
   abreast-start at i p e = record {
     first = omega (arith, e);
-    decides = ap (λ (j : ℕ). all passes (drop j vs)) e ∙ before-place passes (d * 10000 * 65536 + 0) vs (λ v l. outside v (λ q. absurd (omega arith)));
+    decides = ap (λ (j : ℕ). all passes (drop j vs)) e
+        ∙ before-place passes (d * 10000 * 65536 + 0) vs (λ v l. outside v (λ q. absurd (omega arith)));
     behind = λ j l h u.
         let m = place-up vs (c * 10000 * 65536 + 0) (underCode c (versionAt vs j .id .tn .0) * 65536 + 0) (omega arith) in
         omega (arith, p, m);
@@ -136,7 +141,8 @@ module _ (c d : ℕ) (vs : List Version) where
       pair-past n =
           let least : d * 10000 * 65536 + 0 ≤ keyFor (versionAt vs i) = place-at (d * 10000 * 65536 + 0) 0 vs i (g .rises) (s .first) l in
           let m : versionAt vs i .id .number < 65536 = number-at vs i g l in
-          walk-past passes vs i (s .decides) l ((d + 1) * 10000 * 65536) (g .sound) (g .rises) (omega arith) (λ v b k. outside v (λ z. absurd (omega arith)))
+          walk-past passes vs i (s .decides) l ((d + 1) * 10000 * 65536) (g .sound) (g .rises) (omega arith)
+          (λ v b k. outside v (λ z. absurd (omega arith)))
 
       module _ (o : x / 10000 ≡ d) where
         -- the place that the row must reach is not before
@@ -167,7 +173,8 @@ module _ (c d : ℕ) (vs : List Version) where
                 let up : keyFor (versionAt vs i) < keyFor (versionAt vs j) = rises-at vs 0 i j (g .rises) (omega arith) h in
                 let n : versionAt vs j .id .number < 65536 = number-at vs j g h in
                 let r : x ≤ versionAt vs j .id .tn .0 = omega arith in
-                let z = place-up vs ((c * 10000 + x % 10000) * 65536 + 0) (underCode c (versionAt vs j .id .tn .0) * 65536 + 0) (omega arith) in
+                let z = place-up vs ((c * 10000 + x % 10000) * 65536 + 0) (underCode c (versionAt vs j .id .tn .0) * 65536 + 0)
+                (omega arith) in
                 omega (arith, e, z)
 
             pub pair-on : b ≡ true → Abreast to (i + 1)

@@ -20,11 +20,13 @@ pub record Tells (w : ℕ) (v : Version) : Type 0 where
   pub key : w / 16384 ≡ keyFor v
   pub held : heldIn w ≡ heldOf v
 
-pub tells : (t : List ℕ) (n i w : ℕ) → SoundTable t n → i < n → w ≡ wordsIn (rowAt t i) .head → w < 18446744073709551616 → Tells w (versionAt (decode t) i)
+pub tells : (t : List ℕ) (n i w : ℕ) → SoundTable t n → i < n → w ≡ wordsIn (rowAt t i) .head → w < 18446744073709551616
+    → Tells w (versionAt (decode t) i)
 unfolding unpack versionOf heldIn
 tells t n i w s h e b =
     let l : unpack (rowAt t i) ≡ versionAt (decode t) i = sound-load t n s i (unpack []) h in
-    let k : wordsIn (rowAt t i) .head / 1073741824 % 17179869184 ≡ versionAt (decode t) i .id .tn .0 = ap (λ (v : Version). v .id .tn .0) l in
+    let k : wordsIn (rowAt t i) .head / 1073741824 % 17179869184 ≡ versionAt (decode t) i .id .tn .0 =
+    ap (λ (v : Version). v .id .tn .0) l in
     let m : wordsIn (rowAt t i) .head / 16384 % 65536 ≡ versionAt (decode t) i .id .number = ap (λ (v : Version). v .id .number) l in
     let q : w / 1073741824 ≡ versionAt (decode t) i .id .tn .0 = omega (arith, e, k) in
     let o : w / 16384 % 65536 ≡ versionAt (decode t) i .id .number = omega (arith, e, m) in

@@ -1,4 +1,5 @@
--- What it means that bytes are a sound table with these books: they are those of a table that is sound by its lines, and of nothing else. [A3.5]
+-- What it means that bytes are a sound table with these books: they are those of a table that is sound by its lines, and of nothing else.
+-- [A3.5]
 -- Assumes nothing.
 use mathlib.Core.Path.{_≡_, refl, ap, _∙_}
 use Prim.Native.Nat.{ℕ}
@@ -13,7 +14,7 @@ use Rattle.model.proofs.Lists.{and-l, and-r, both-true}
 use Rattle.model.proofs.SoundTables.{table-says, says-table, sound-narrow}
 use Rattle.model.specs.declared.Version.{Version}
 use Rattle.rows.specs.Table.{decode, encode}
-use Rattle.scan.specs.Sound.{rowsIn, itself, soundnessOf, SoundTable}
+use Rattle.scan.specs.Sound.{itself, soundnessOf}
 use Rattle.scan.specs.declared.Soundness.{Soundness}
 use Rattle.scan.specs.declared.Soundness.the-variants.{Unsound, Sound}
 use Rattle.scan.proofs.Meant.{says-sound}

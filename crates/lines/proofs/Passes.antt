@@ -44,7 +44,8 @@ number-at vs i g h = number-lt (versionAt vs i) (sound-at vs i (unpack []) (g .s
 -- ---- whether any version passes a test that only keys from lo up to hi can pass: the first of them decides
 
 module _ (q : Version → Bool) (lo hi : ℕ) (low : (v : Version) → keyFor v < lo → q v ≡ true → ⊥)
-    (high : (v : Version) → v .id .number < 65536 → hi ≤ keyFor v → q v ≡ true → ⊥) (vs : List Version) (i : ℕ) (e : i ≡ placeIn lo vs) where
+    (high : (v : Version) → v .id .number < 65536 → hi ≤ keyFor v → q v ≡ true → ⊥) (vs : List Version) (i : ℕ)
+    (e : i ≡ placeIn lo vs) where
   from-first : all (λ (v : Version). not (q v)) (drop i vs) ≡ all (λ (v : Version). not (q v)) vs
   from-first =
       ap (λ (j : ℕ). all (λ (v : Version). not (q v)) (drop j vs)) e
@@ -77,7 +78,8 @@ module _ (k : Id) (b : k .number < 65536) (vs : List Version) (i : ℕ) (e : i �
   pub absent-at : Listed vs → i < length vs → (x : ℕ) → x ≡ keyFor (versionAt vs i) → not (eqb x (keyOf k)) ≡ lacks k vs
   unfolding lacks
   absent-at g h x q =
-      first-decides (hasName k) (keyOf k) (keyOf k + 1) below above vs i e g h (eqb x (keyOf k)) (go (eqb x (keyOf k)) refl (hasName k (versionAt vs i)) refl)
+      first-decides (hasName k) (keyOf k) (keyOf k + 1) below above vs i e g h (eqb x (keyOf k))
+      (go (eqb x (keyOf k)) refl (hasName k (versionAt vs i)) refl)
       (λ z l m. let n : x ≡ keyOf k → ⊥ = eqb-false _ _ z in omega arith)
     where
       go : (s : Bool) → eqb x (keyOf k) ≡ s → (r : Bool) → hasName k (versionAt vs i) ≡ r → s ≡ r
@@ -178,7 +180,8 @@ module _ (tn : ℕ) (h : Held) (vs : List Version) where
           let m : versionAt vs i .id .number < 65536 = number-at vs i g l in
           walk-past spare vs i s l ((tn + 1) * 65536) (g .sound) (g .rises) (omega arith) (λ v b k. elsewhere v (λ z. absurd (omega arith)))
 
-      module _ (x : ℕ) (q : x ≡ versionAt vs i .id .tn .0) (o : x ≡ tn) (y : Held) (w : y ≡ heldOf (versionAt vs i)) (b : Bool) (m : b ≡ meet y h) where
+      module _ (x : ℕ) (q : x ≡ versionAt vs i .id .tn .0) (o : x ≡ tn) (y : Held) (w : y ≡ heldOf (versionAt vs i)) (b : Bool)
+          (m : b ≡ meet y h) where
         shown : spare (versionAt vs i) ≡ not b
         shown = ap₂ (λ (c d : Bool). not (c && d)) (eq-eqb _ _ (sym q ∙ o)) (ap (λ (z : Held). meet z h) (sym w) ∙ sym m)
 

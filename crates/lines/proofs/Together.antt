@@ -62,7 +62,8 @@ apart-clear v w n e =
 
 clear-apart : (v w : Version) → Clear v w → meet (heldOf v) (heldOf w) ≡ false
 unfolding meet
-clear-apart v w c = neither (off (live v) (live w) (c .lives)) (neither (off (sends v) (sends w) (c .sent)) (off (worked v) (worked w) (c .work)))
+clear-apart v w c = neither (off (live v) (live w) (c .lives))
+    (neither (off (sends v) (sends w) (c .sent)) (off (worked v) (worked w) (c .work)))
   where
     off : (a b : Bool) → (a ≡ true → b ≡ true → ⊥) → (a && b) ≡ false
     off true true f = absurd (f refl refl)
@@ -93,15 +94,19 @@ module _ (c d : ℕ) (t : List Version) where
       unnamed : hasName (nameUnder c (versionAt t j)) (versionAt t i) ≡ false
       unnamed =
           not-true _ (all-at (λ (x : Version). not (hasName (nameUnder c (versionAt t j)) x)) t
-          (and-l (lacks (nameUnder c (versionAt t j)) t) (spares (underCode c (versionAt t j .id .tn .0)) (heldOf (versionAt t j)) t) fit) i hi)
+          (and-l (lacks (nameUnder c (versionAt t j)) t) (spares (underCode c (versionAt t j .id .tn .0)) (heldOf (versionAt t j)) t) fit)
+          i hi)
 
       other : versionAt t i .id .number ≡ versionAt t j .id .number → ⊥
       other q = clash (sym unnamed ∙ ap₂ (λ (a b : Bool). a && b) (eq-eqb _ _ s) (eq-eqb _ _ q))
 
-      spared : not (eqb (versionAt t i .id .tn .0) (underCode c (versionAt t j .id .tn .0)) && meet (heldOf (versionAt t i)) (heldOf (versionAt t j))) ≡ true
+      spared : not (eqb (versionAt t i .id .tn .0) (underCode c (versionAt t j .id .tn .0)) && meet (heldOf (versionAt t i))
+          (heldOf (versionAt t j))) ≡ true
       spared =
-          all-at (λ (x : Version). not (eqb (x .id .tn .0) (underCode c (versionAt t j .id .tn .0)) && meet (heldOf x) (heldOf (versionAt t j)))) t
-          (and-r (lacks (nameUnder c (versionAt t j)) t) (spares (underCode c (versionAt t j .id .tn .0)) (heldOf (versionAt t j)) t) fit) i hi
+          all-at (λ (x : Version).
+          not (eqb (x .id .tn .0) (underCode c (versionAt t j .id .tn .0)) && meet (heldOf x) (heldOf (versionAt t j)))) t
+          (and-r (lacks (nameUnder c (versionAt t j)) t) (spares (underCode c (versionAt t j .id .tn .0)) (heldOf (versionAt t j)) t) fit)
+          i hi
 
       free : (b : Bool) → not (eqb (versionAt t i .id .tn .0) (underCode c (versionAt t j .id .tn .0)) && b) ≡ true → b ≡ false
       free b q = subst (λ (a : Bool). (a && b) ≡ false) (eq-eqb _ _ s) (not-true _ q)
@@ -120,7 +125,8 @@ module _ (c d : ℕ) (t : List Version) where
       nameless i j hi hj u false e = refl
 
       spare : (i j : ℕ) → i < length t → j < length t → versionAt t j .id .tn .0 / 10000 ≡ d → (b : Bool)
-          → eqb (versionAt t i .id .tn .0) (underCode c (versionAt t j .id .tn .0)) ≡ b → not (b && meet (heldOf (versionAt t i)) (heldOf (versionAt t j))) ≡ true
+          → eqb (versionAt t i .id .tn .0) (underCode c (versionAt t j .id .tn .0)) ≡ b
+          → not (b && meet (heldOf (versionAt t i)) (heldOf (versionAt t j))) ≡ true
       spare i j hi hj u true e = ap not (clear-apart (versionAt t i) (versionAt t j) (f i j hi hj u (eqb-true _ _ e)))
       spare i j hi hj u false e = refl
 
@@ -128,7 +134,8 @@ module _ (c d : ℕ) (t : List Version) where
       go j hj true e =
           both-true (lacks (nameUnder c (versionAt t j)) t) (spares (underCode c (versionAt t j .id .tn .0)) (heldOf (versionAt t j)) t)
           (at-all (λ (x : Version). not (hasName (nameUnder c (versionAt t j)) x)) t (λ i hi. nameless i j hi hj (eqb-true _ _ e) _ refl))
-          (at-all (λ (x : Version). not (eqb (x .id .tn .0) (underCode c (versionAt t j .id .tn .0)) && meet (heldOf x) (heldOf (versionAt t j)))) t
+          (at-all (λ (x : Version).
+          not (eqb (x .id .tn .0) (underCode c (versionAt t j .id .tn .0)) && meet (heldOf x) (heldOf (versionAt t j)))) t
           (λ i hi. spare i j hi hj (eqb-true _ _ e) _ refl))
       go j hj false e = refl
 
@@ -146,7 +153,8 @@ module _ (xs : List Split) (s : soundSplits xs ≡ true) (t : List Version) wher
       by-pair p =
           let k : tnAt i % 10000 ≡ tnAt j % 10000 = p .digits in
           ⊎-elim (λ z. pair-clear (tnAt i / 10000) (tnAt j / 10000) t z i j (omega arith) h refl (omega arith))
-          (λ z. clear-back (versionAt t j) (versionAt t i) (pair-clear (tnAt j / 10000) (tnAt i / 10000) t z j i h (omega arith) refl (omega arith)))
+          (λ z. clear-back (versionAt t j) (versionAt t i)
+          (pair-clear (tnAt j / 10000) (tnAt i / 10000) t z j i h (omega arith) refl (omega arith)))
           (pairs-partners (λ (c b : ℕ). pairFits c b t) xs e (tnAt i / 10000) (tnAt j / 10000) (p .partner) (p .code))
 
   clear-pairs : AllClear (lineIn xs) t → pairsFit xs t ≡ true

@@ -44,14 +44,18 @@ module _ (w : ℕ → ℕ) (n i : ℕ) (xs : List Split) (t : List Version) (l :
 
       pub pair-codes : (x / 2 ^ 32 < 1000000) × (x % 2 ^ 32 < 1000000)
       pair-codes =
-          let k : codes (splitOf x) ≡ true = and-l (codes (splitOf x)) (all codes (pairsFrom w n (i + 1))) seen in
-          (code-below (x / 2 ^ 32) (and-l (isCode (x / 2 ^ 32)) (isCode (x % 2 ^ 32)) k), code-below (x % 2 ^ 32) (and-r (isCode (x / 2 ^ 32)) (isCode (x % 2 ^ 32)) k))
+          let k : codes (splitOf x) ≡ true = and-l (codes (splitOf x)) (all codes (pairsFrom w n (i + 1))) seen in (
+            code-below (x / 2 ^ 32) (and-l (isCode (x / 2 ^ 32)) (isCode (x % 2 ^ 32)) k),
+            code-below (x % 2 ^ 32)
+                (and-r (isCode (x / 2 ^ 32)) (isCode (x % 2 ^ 32)) k),
+          )
 
       module _ (b : Bool) (e : b ≡ pairFits (x / 2 ^ 32) (x % 2 ^ 32) t) where
         split : pairsFit xs t ≡ (b && pairsFit (pairsFrom w n (i + 1)) t)
         unfolding pairsFit
         split =
-            sym (l .decides) ∙ ap (λ (r : List Split). pairsFit r t) more ∙ ap (λ (a : Bool). a && pairsFit (pairsFrom w n (i + 1)) t) (sym e)
+            sym (l .decides) ∙ ap (λ (r : List Split). pairsFit r t) more
+            ∙ ap (λ (a : Bool). a && pairsFit (pairsFrom w n (i + 1)) t) (sym e)
 
         pub pairs-fail : b ≡ false → pairsFit xs t ≡ false
         pairs-fail f = split ∙ ap (λ (a : Bool). a && pairsFit (pairsFrom w n (i + 1)) t) f

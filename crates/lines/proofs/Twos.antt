@@ -42,7 +42,8 @@ module _ (p : Version → Bool) where
   none-passes : (vs : List Version) → count p vs ≡ 0 → (i : ℕ) → i < length vs → p (versionAt vs i) ≡ true → ⊥
   none-passes [] c i h e = not-suc-le-zero h
   none-passes (v ∷ vs) c zero h e =
-      let z : length (cond true (v ∷ keep p vs) (keep p vs)) ≡ 0 = subst (λ (b : Bool). length (cond b (v ∷ keep p vs) (keep p vs)) ≡ 0) e c in
+      let z : length (cond true (v ∷ keep p vs) (keep p vs)) ≡ 0 =
+      subst (λ (b : Bool). length (cond b (v ∷ keep p vs) (keep p vs)) ≡ 0) e c in
       omega arith
   none-passes (v ∷ vs) c (suc i) h e = none-passes vs (go (p v) c) i (le-of-suc-le-suc h) e
     where
@@ -58,11 +59,13 @@ module _ (p : Version → Bool) where
       go true e ih = absurd (f 0 (suc-le-suc zero-le) e)
       go false e ih = ih
 
-  one-two : (vs : List Version) → count p vs ≤ 1 → (i j : ℕ) → i < j → j < length vs → p (versionAt vs i) ≡ true → p (versionAt vs j) ≡ true → ⊥
+  one-two : (vs : List Version) → count p vs ≤ 1 → (i j : ℕ) → i < j → j < length vs → p (versionAt vs i) ≡ true
+      → p (versionAt vs j) ≡ true → ⊥
   one-two [] c i j l h a b = not-suc-le-zero h
   one-two (v ∷ vs) c i zero l h a b = not-suc-le-zero l
   one-two (v ∷ vs) c zero (suc j) l h a b =
-      let z : length (cond true (v ∷ keep p vs) (keep p vs)) ≤ 1 = subst (λ (b : Bool). length (cond b (v ∷ keep p vs) (keep p vs)) ≤ 1) a c in
+      let z : length (cond true (v ∷ keep p vs) (keep p vs)) ≤ 1 =
+      subst (λ (b : Bool). length (cond b (v ∷ keep p vs) (keep p vs)) ≤ 1) a c in
       let o : count p vs ≡ 0 = omega arith in
       none-passes vs o j (le-of-suc-le-suc h) b
   one-two (v ∷ vs) c (suc i) (suc j) l h a b = one-two vs (go (p v) c) i j (le-of-suc-le-suc l) (le-of-suc-le-suc h) a b
@@ -87,7 +90,8 @@ count-kept p q [] = refl
 count-kept p q (v ∷ vs) = go (q v) (p v) refl (count-kept p q vs)
   where
     go : (a b : Bool) → p v ≡ b → count p (keep q vs) ≡ count (λ (v : Version). q v && p v) vs
-        → count p (cond a (v ∷ keep q vs) (keep q vs)) ≡ length (cond (a && b) (v ∷ keep (λ (v : Version). q v && p v) vs) (keep (λ (v : Version). q v && p v) vs))
+        → count p (cond a (v ∷ keep q vs) (keep q vs))
+        ≡ length (cond (a && b) (v ∷ keep (λ (v : Version). q v && p v) vs) (keep (λ (v : Version). q v && p v) vs))
     go true true e ih = rw e (ap suc ih)
     go true false e ih = rw e ih
     go false b e ih = ih
@@ -137,7 +141,8 @@ clear-back v w c = record {
 -- every two of one line may
 abbrev pub AllClear : (ℕ → ℕ) → List Version → Type 0
 AllClear line t =
-    (i j : ℕ) → i < j → j < length t → line (versionAt t i .id .tn .0) ≡ line (versionAt t j .id .tn .0) → Clear (versionAt t i) (versionAt t j)
+    (i j : ℕ) → i < j → j < length t → line (versionAt t i .id .tn .0) ≡ line (versionAt t j .id .tn .0)
+    → Clear (versionAt t i) (versionAt t j)
 
 module _ (line : ℕ → ℕ) (t : List Version) where
   abbrev rows : ℕ → List Version
@@ -154,7 +159,8 @@ module _ (line : ℕ → ℕ) (t : List Version) where
   lines-clear e i j d h q =
       let l : ℕ = line (versionAt t i .id .tn .0) in
       let r : List Version = rowsOf line (line (versionAt t i .id .tn .0)) t in
-      let s : (oneEach r && noneTwice r) ≡ true = all-at (λ (v : Version). soundLine (rowsOf line (line (v .id .tn .0)) t)) t e i (omega arith) in
+      let s : (oneEach r && noneTwice r) ≡ true =
+      all-at (λ (v : Version). soundLine (rowsOf line (line (v .id .tn .0)) t)) t e i (omega arith) in
       let of : (k : ℕ) → getD (three r) k true ≡ true = conj-at (three r) (and-l (oneEach r) (noneTwice r) s) in
       let n : implies (inLine line l (versionAt t i .id)) (alone r (versionAt t i)) ≡ true =
       all-at (λ (v : Version). implies (inLine line l (v .id)) (alone r v)) t
@@ -162,7 +168,8 @@ module _ (line : ℕ → ℕ) (t : List Version) where
       let m : alone r (versionAt t i) ≡ true = subst (λ (b : Bool). implies b (alone r (versionAt t i)) ≡ true) (eq-eqb l l refl) n in
       record {
         number = λ z.
-            parted line l t (numbered (versionAt t i .id .number)) (leb-true _ _ m) i j d h refl (sym q) (eq-eqb (versionAt t i .id .number) (versionAt t i .id .number) refl) (eq-eqb _ _ (sym z));
+            parted line l t (numbered (versionAt t i .id .number)) (leb-true _ _ m) i j d h refl (sym q)
+            (eq-eqb (versionAt t i .id .number) (versionAt t i .id .number) refl) (eq-eqb _ _ (sym z));
         lives = parted line l t live (leb-true _ _ (of 0)) i j d h refl (sym q);
         sent = parted line l t sends (leb-true _ _ (of 1)) i j d h refl (sym q);
         work = parted line l t worked (leb-true _ _ (of 2)) i j d h refl (sym q);
@@ -190,4 +197,5 @@ module _ (line : ℕ → ℕ) (t : List Version) where
           (with (le-leb _ _ (joint line l t sends (λ i j d h a b. f i j d h (a ∙ sym b) .sent)))
           (with (le-leb _ _ (joint line l t worked (λ i j d h a b. f i j d h (a ∙ sym b) .work))) none))))
           (all-kept (alone (rows k)) (λ (v : Version). inLine line l (v .id)) t
-          ∙ at-all (λ (v : Version). implies (inLine line l (v .id)) (alone (rows k) v)) t (λ m h. kept k m (inLine line l (versionAt t m .id))))
+          ∙ at-all (λ (v : Version). implies (inLine line l (v .id)) (alone (rows k) v)) t
+          (λ m h. kept k m (inLine line l (versionAt t m .id))))

@@ -31,7 +31,8 @@ place-at k j (v ∷ vs) zero r l h = go (ltb (keyFor v) k) refl l
     go false e z = ltb-false _ _ e
 place-at k j (v ∷ vs) (suc i) r l h = go (ltb (keyFor v) k) refl l (λ z. place-at k (keyFor v) vs i (r .1) z (le-of-suc-le-suc h))
   where
-    go : (b : Bool) → ltb (keyFor v) k ≡ b → past b (placeIn k vs) ≤ suc i → (placeIn k vs ≤ i → k ≤ keyFor (versionAt vs i)) → k ≤ keyFor (versionAt vs i)
+    go : (b : Bool) → ltb (keyFor v) k ≡ b → past b (placeIn k vs) ≤ suc i → (placeIn k vs ≤ i → k ≤ keyFor (versionAt vs i))
+        → k ≤ keyFor (versionAt vs i)
     go true e z ih = ih (le-of-suc-le-suc z)
     go false e z ih =
         let m : k ≤ keyFor v = ltb-false _ _ e in
@@ -59,12 +60,14 @@ module _ (p : Version → Bool) where
       → ((v : Version) → v .id .number < 65536 → k ≤ keyFor v → p v ≡ true) → all p vs ≡ true
   above-all k j [] a r h f = refl
   above-all k j (v ∷ vs) a r h f =
-      both-true (p v) (all p vs) (f v (number-lt v (a .0)) (omega (arith, r .0))) (above-all k (keyFor v) vs (a .1) (r .1) (omega (arith, r .0)) f)
+      both-true (p v) (all p vs) (f v (number-lt v (a .0)) (omega (arith, r .0)))
+      (above-all k (keyFor v) vs (a .1) (r .1) (omega (arith, r .0)) f)
 
   behind-all : (k j : ℕ) (vs : List Version) (i : ℕ) → AllSound vs → RisingFrom j vs → i < length vs → k ≤ keyFor (versionAt vs i)
       → ((v : Version) → v .id .number < 65536 → k ≤ keyFor v → p v ≡ true) → all p (drop i vs) ≡ true
   behind-all k j [] i a r h l f = absurd (not-suc-le-zero h)
-  behind-all k j (v ∷ vs) zero a r h l f = both-true (p v) (all p vs) (f v (number-lt v (a .0)) l) (above-all k (keyFor v) vs (a .1) (r .1) l f)
+  behind-all k j (v ∷ vs) zero a r h l f =
+      both-true (p v) (all p vs) (f v (number-lt v (a .0)) l) (above-all k (keyFor v) vs (a .1) (r .1) l f)
   behind-all k j (v ∷ vs) (suc i) a r h l f = behind-all k (keyFor v) vs i (a .1) (r .1) (le-of-suc-le-suc h) l f
 
   -- the rows from place i on decide

@@ -1,5 +1,5 @@
-// Whether the rows of each line may stand together, where two TNs that differ only by the codes of a split pair name one line. Only the first
-// word of a row is read. [A3.5]
+// Whether the rows of each line may stand together, where two TNs that differ only by the codes of a split pair name one line. Only the
+// first word of a row is read. [A3.5]
 use model::Id;
 use model::Tn;
 use model::status;
@@ -129,8 +129,8 @@ fn nobody(t: &[u8], n: usize, tn: Tn, at: usize) -> bool
     true
 }
 
-// Whether no version of the number whose first place is `at` has what h has. Of another number at most three versions have any of it, so that
-// its versions are gone through at most three times.
+// Whether no version of the number whose first place is `at` has what h has. Of another number at most three versions have any of it, so
+// that its versions are gone through at most three times.
 fn spared(t: &[u8], n: usize, tn: Tn, h: Held, at: usize) -> bool
     requires { ⌜ SoundTable (now t) n ⌝ }
     requires { ⌜ at ≡ placeIn (tn .0 * 65536 + 0) (decode (now t)) ⌝ }
@@ -154,7 +154,7 @@ fn spared(t: &[u8], n: usize, tn: Tn, h: Held, at: usize) -> bool
 }
 
 // Whether row i may stand in one line with the versions of its TN under the code c, whose first place is `at`.
-fn fitting(t: &[u8], n: usize, c: u64, i: usize, at: usize) -> bool
+fn row_fits(t: &[u8], n: usize, c: u64, i: usize, at: usize) -> bool
     requires { ⌜ SoundTable (now t) n ⌝ }
     requires { ⌜ (c < 1000000) × (i < n) ⌝ }
     requires { ⌜ at ≡ placeIn (underCode c (versionAt (decode (now t)) i .id .tn .0) * 65536 + 0) (decode (now t)) ⌝ }
@@ -212,7 +212,7 @@ fn pair_fits(t: &[u8], n: usize, c: u64, d: u64) -> bool
         }
         let tn = Tn(c * 10000 + w / 1073741824 % 10000);
         at = reach(t, n, tn, at);
-        if !fitting(t, n, c, i, at) {
+        if !row_fits(t, n, c, i, at) {
             return false;
         }
         i += 1;
@@ -220,10 +220,10 @@ fn pair_fits(t: &[u8], n: usize, c: u64, d: u64) -> bool
     true
 }
 
-// Whether the rows of each line of a sound table may stand together, by the split pairs of sound books. A pair costs at most two searches and
-// one pass over the rows under its codes. Where a line has rows under both, each under the second code costs a look at those under the first,
-// up to its number and at most eight before a search, and one that is live, sending or worked a look at all of them. A row of no pair costs
-// nothing. [A3.5]
+// Whether the rows of each line of a sound table may stand together, by the split pairs of sound books. A pair costs at most two searches
+// and one pass over the rows under its codes. Where a line has rows under both, each under the second code costs a look at those under the
+// first, up to its number and at most eight before a search, and one that is live, sending or worked a look at all of them. A row of no
+// pair costs nothing. [A3.5]
 pub fn sound(books: &[u8], t: &[u8], n: usize) -> bool
     requires { ⌜ SoundTable (now t) n ⌝ }
     requires { ⌜ (length (now books) ≡ bookBytes) × (soundSplits (splitsOf (now books)) ≡ true) ⌝ }

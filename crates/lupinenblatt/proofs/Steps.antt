@@ -1,8 +1,8 @@
 -- What the step's calls answer before the engine is asked.
 -- Assumes nothing.
-use mathlib.Core.Path.{_≡_, refl, sym, ap, _∙_}
+use mathlib.Core.Path.{_≡_, refl}
 use Prim.Native.Nat.{ℕ}
-use mathlib.Core.Bool.{Bool, true, false, cond, _&&_}
+use mathlib.Core.Bool.{Bool, true, false}
 use mathlib.Core.List.{List, map}
 use lib.Dec.{leb}
 use Rattle.model.specs.Books.{soundBooks}
@@ -13,7 +13,7 @@ use Rattle.model.specs.Step as model
 use Rattle.model.specs.declared.Outcome.the-variants as outcome
 use Rattle.providers.specs.Providers.{listed, entryOf}
 use Rattle.providers.specs.declared.Listed.{Listed}
-use Rattle.books.specs.Packed.{decodeBooks, soundBytes}
+use Rattle.books.specs.Packed.{decodeBooks}
 use Rattle.rows.specs.Table.{decode}
 use Rattle.scan.specs.Sound.{rowsIn}
 use Rattle.engine.specs.Step.{settingOf, formed, resultIn, resultOf}
@@ -23,7 +23,8 @@ use Rattle.batch.specs.Batch.{refusal}
 pub wide-retries : (p b : List ℕ) (most : ℕ) (e t y : List ℕ) → leb most 7 ≡ false → resultOf p b most e t y ≡ refuse outcome.Unsound
 unfolding resultIn model.step unsound
 wide-retries p b most e t y h =
-    go (formed (listed (map entryOf p)) b t) refl (soundTable (line (settingOf (listed (map entryOf p) .marks) b most t y)) (rowsIn t) (decode t)) refl
+    go (formed (listed (map entryOf p)) b t) refl
+    (soundTable (line (settingOf (listed (map entryOf p) .marks) b most t y)) (rowsIn t) (decode t)) refl
     (soundBooks (decodeBooks (listed (map entryOf p) .marks) b)) refl
   where
     go : (f : Bool) → formed (listed (map entryOf p)) b t ≡ f

@@ -20,8 +20,8 @@ pub extern "C" fn lupinenblatt_record_read(bytes: &[u8], fields: &mut [u64]) -> 
     fields::read(bytes, fields)
 }
 
-// Writes the record of ten fields to 24 bytes, and 0; 2 where they are malformed, a number is too wide for its field, or the bytes are not 24,
-// and nothing is written.
+// Writes the record of ten fields to 24 bytes, and 0; 2 where they are malformed, a number is too wide for its field, or the bytes are not
+// 24, and nothing is written.
 #[no_mangle]
 pub extern "C" fn lupinenblatt_record_write(
     kind: u64,

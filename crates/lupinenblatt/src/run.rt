@@ -3,7 +3,7 @@ use crate::MOST_RETRIES;
 use batch::Ran;
 ghost use mathlib.Core.List.{map};
 ghost use Rattle.providers.specs.Providers.{listed, entryOf};
-ghost use Rattle.batch.specs.Batch.{refusal, leaves, Went};
+ghost use Rattle.batch.specs.Batch.{RunOn};
 
 // Event records on a table, as many steps as repeated calls would make.
 #[no_mangle]
@@ -16,7 +16,8 @@ pub extern "C" fn lupinenblatt_run(
     tray: &mut [u8],
     outcomes: &mut [u8],
 ) -> Ran
-    ensures { λ r. ⌜ Went (refusal (listed (map entryOf (now (providers .entry)))) (now (books .entry)) retries (now (events .entry)) (now (table .entry)) (now (tray .entry)) (now (outcomes .entry))) (leaves (listed (map entryOf (now (providers .entry)))) (now (books .entry)) retries (now (events .entry)) (now (table .entry)) (now (tray .entry)) (now (outcomes .entry))) (now (table .exit)) (now (tray .exit)) (now (outcomes .exit)) r ⌝ }
+    ensures { λ r. ⌜ RunOn (listed (map entryOf (now (providers .entry)))) (now (books .entry)) retries (now (events .entry))
+        (now (table .entry)) (now (tray .entry)) (now (outcomes .entry)) (now (table .exit)) (now (tray .exit)) (now (outcomes .exit)) r ⌝ }
 {
     if MOST_RETRIES < retries {
         return Ran {

@@ -4,8 +4,7 @@ use outcomes::Answer;
 ghost use mathlib.Core.Path.{_≡_};
 ghost use mathlib.Core.List.{map};
 ghost use Rattle.providers.specs.Providers.{listed, entryOf};
-ghost use Rattle.engine.specs.Event.{Did};
-ghost use Rattle.engine.specs.Step.{resultOf};
+ghost use Rattle.engine.specs.Step.{Stepped};
 ghost use Rattle.checks.specs.Checks.{soundnessLent, checkedTable, checkedBooks};
 ghost use Rattle.lupinenblatt.specs.Default.{defaultRetries};
 
@@ -21,7 +20,8 @@ pub extern "C" fn lupinenblatt_step(
     event: &[u8],
     tray: &mut [u8],
 ) -> Answer
-    ensures { λ r. ⌜ Did (resultOf (now (providers .entry)) (now (books .entry)) retries (now (event .entry)) (now (table .entry)) (now (tray .entry))) (now (table .entry)) (now (tray .entry)) (now (table .exit)) (now (tray .exit)) r ⌝ }
+    ensures { λ r. ⌜ Stepped (listed (map entryOf (now (providers .entry)))) (now (books .entry)) retries (now (event .entry))
+        (now (table .entry)) (now (tray .entry)) (now (table .exit)) (now (tray .exit)) r ⌝ }
 {
     if MOST_RETRIES < retries {
         return Answer {
@@ -41,7 +41,8 @@ pub extern "C" fn lupinenblatt_step_default(
     event: &[u8],
     tray: &mut [u8],
 ) -> Answer
-    ensures { λ r. ⌜ Did (resultOf (now (providers .entry)) (now (books .entry)) defaultRetries (now (event .entry)) (now (table .entry)) (now (tray .entry))) (now (table .entry)) (now (tray .entry)) (now (table .exit)) (now (tray .exit)) r ⌝ }
+    ensures { λ r. ⌜ Stepped (listed (map entryOf (now (providers .entry)))) (now (books .entry)) defaultRetries (now (event .entry))
+        (now (table .entry)) (now (tray .entry)) (now (table .exit)) (now (tray .exit)) r ⌝ }
 {
     engine::step::step(table, providers, books, DEFAULT_RETRIES, event, tray)
 }
@@ -49,7 +50,8 @@ pub extern "C" fn lupinenblatt_step_default(
 // Whether bytes are a sound table with the provider list and the books that it is lent with, and how many of its rows are used. [A3.5]
 #[no_mangle]
 pub extern "C" fn lupinenblatt_table_check(table: &[u8], providers: &[u8], books: &[u8]) -> Answer
-    ensures { λ r. ⌜ r ≡ checkedTable (soundnessLent (listed (map entryOf (now (providers .entry)))) (now (books .entry)) (now (table .entry))) ⌝ }
+    ensures { λ r. ⌜ r ≡ checkedTable
+        (soundnessLent (listed (map entryOf (now (providers .entry)))) (now (books .entry)) (now (table .entry))) ⌝ }
 {
     checks::table_check(table, providers, books)
 }

@@ -59,13 +59,15 @@ module _ (lineOf : ℕ → ℕ) where
 
   -- ---- changes of one line, and the rows of another
 
-  pub rows-out : (l m : ℕ) (cs : List Change) (t : List Version) → Near l cs → (l ≡ m → ⊥) → rowsOf lineOf m (changes cs t) ≡ rowsOf lineOf m t
+  pub rows-out : (l m : ℕ) (cs : List Change) (t : List Version) → Near l cs → (l ≡ m → ⊥)
+      → rowsOf lineOf m (changes cs t) ≡ rowsOf lineOf m t
   rows-out l m [] t none n = refl
   rows-out l m (c ∷ cs) t (with h hs) n =
       rows-out l m cs (change c t) hs n
       ∙ part-out (inLine lineOf m) c t (ne-eqb (lineOf (nameOf c .tn .0)) m (λ e. n (sym h ∙ e)))
 
-  pub rows-in : (l : ℕ) (cs : List Change) (t : List Version) → Near l cs → Rising t → rowsOf lineOf l (changes cs t) ≡ changes cs (rowsOf lineOf l t)
+  pub rows-in : (l : ℕ) (cs : List Change) (t : List Version) → Near l cs → Rising t
+      → rowsOf lineOf l (changes cs t) ≡ changes cs (rowsOf lineOf l t)
   rows-in l [] t none r = refl
   rows-in l (c ∷ cs) t (with h hs) r =
       rows-in l cs (change c t) hs (rising-change c t r)
@@ -101,7 +103,8 @@ module _ (lineOf : ℕ → ℕ) where
       (λ m e. and-false (iff (m .local) x) (eqb (m .provider) s) (eqb (lineOf (m .id .tn .0)) n)
       (λ q. k (sym (eqb-true (lineOf (m .id .tn .0)) n q) ∙ e)))
 
-  mail-comm : (l m : ℕ) (a b : List Message) (x : Bool) (s n : ℕ) → About l a → About m b → (l ≡ m → ⊥) → mail x s n (a ++ b) ≡ mail x s n (b ++ a)
+  mail-comm : (l m : ℕ) (a b : List Message) (x : Bool) (s n : ℕ) → About l a → About m b → (l ≡ m → ⊥)
+      → mail x s n (a ++ b) ≡ mail x s n (b ++ a)
   mail-comm l m a b x s n h k ne = keep-append (isFor lineOf x s n) a b ∙ go (eqb n l) refl ∙ sym (keep-append (isFor lineOf x s n) b a)
     where
       go : (q : Bool) → eqb n l ≡ q → mail x s n a ++ mail x s n b ≡ mail x s n b ++ mail x s n a

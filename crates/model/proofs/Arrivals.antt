@@ -59,7 +59,8 @@ module _ (most : ℕ) (small : most ≤ 7) where
     where
       go : (b : Bool) → again most e c ≡ b → cond b (used (c .retries) (answering e) + 1) 0 < 8
       go true q =
-          let h : used (c .retries) (answering e) < most = ltb-true _ _ (and-r (eqb (e .kind) 12) (ltb (used (c .retries) (answering e)) most) q) in
+          let h : used (c .retries) (answering e) < most =
+          ltb-true _ _ (and-r (eqb (e .kind) 12) (ltb (used (c .retries) (answering e)) most) q) in
           omega arith
       go false q = omega arith
 
@@ -75,7 +76,8 @@ module _ (most : ℕ) (small : most ≤ 7) where
     again-other = rw other-count
 
     -- another system's place in the waiting set
-    member-other : member (c .waiting) (answering e) ≡ true → member (moved most e c .waiting) (answering f) ≡ member (c .waiting) (answering f)
+    member-other : member (c .waiting) (answering e) ≡ true → member (moved most e c .waiting) (answering f)
+        ≡ member (c .waiting) (answering f)
     unfolding moved
     member-other h = go (again most e c)
       where
@@ -97,10 +99,13 @@ module _ (most : ℕ) (small : most ≤ 7) where
       ∙ (λ i. record {
         purpose = c .purpose;
         start = c .start;
-        confirmed = adds-comm (not (again most e c) && succeeds e) (not (again most f c) && succeeds f) (c .confirmed) (2 ^ answering e) (2 ^ answering f) i;
+        confirmed = adds-comm (not (again most e c) && succeeds e) (not (again most f c) && succeeds f) (c .confirmed)
+            (2 ^ answering e) (2 ^ answering f) i;
         waiting = subs-comm (again most e c) (again most f c) (c .waiting) (2 ^ answering e) (2 ^ answering f) i;
-        failed = adds-comm (not (again most e c) && not (succeeds e)) (not (again most f c) && not (succeeds f)) (c .failed) (2 ^ answering e) (2 ^ answering f) i;
-        retries = used-comm (c .retries) (answering e) (retriesAfter e c) (retries-fit e c) (answering f) (retriesAfter f c) (retries-fit f c) le lf n i;
+        failed = adds-comm (not (again most e c) && not (succeeds e)) (not (again most f c) && not (succeeds f)) (c .failed)
+            (2 ^ answering e) (2 ^ answering f) i;
+        retries = used-comm (c .retries) (answering e) (retriesAfter e c) (retries-fit e c) (answering f) (retriesAfter f c)
+            (retries-fit f c) le lf n i;
       })
       ∙ sym (second f e c lf le (λ x. n (sym x)))
 

@@ -11,7 +11,7 @@ use Rattle.systems.specs.Set.{member, maskOf, meet}
 use Rattle.systems.proofs.Laws.{mask-member}
 use Rattle.model.specs.Basics.{any}
 use Rattle.model.specs.Numbers.{codeOf}
-use Rattle.model.specs.Books.{Books, Filter, Split, partnerOf, filters}
+use Rattle.model.specs.Books.{Books, partnerOf, filters}
 use Rattle.model.specs.Selection.{skipped, classOf, classNumber, isSelected, selects, selectedFor}
 use Rattle.model.specs.Broadcast.{resends, askedFor, opened, broadcasts}
 use Rattle.model.specs.Closing.{open?, closed, closingTold, settlingTold}

@@ -62,7 +62,8 @@ high-kind k a b = rw (le-ltb k 11 (omega arith)) (omega arith, rw (le-ltb (k - 5
 pub grid-kind : (k : ℕ) → isGridKind k ≡ true → (gridPlace k < 11) × (kindAt (gridPlace k) ≡ k)
 grid-kind k h = go (leb 3 k) refl (leb k 10) refl (leb 13 k) refl (leb k 15) refl h
   where
-    go : (a : Bool) → leb 3 k ≡ a → (b : Bool) → leb k 10 ≡ b → (c : Bool) → leb 13 k ≡ c → (d : Bool) → leb k 15 ≡ d → ((a && b) || (c && d)) ≡ true
+    go : (a : Bool) → leb 3 k ≡ a → (b : Bool) → leb k 10 ≡ b → (c : Bool) → leb 13 k ≡ c → (d : Bool) → leb k 15 ≡ d
+        → ((a && b) || (c && d)) ≡ true
         → (gridPlace k < 11) × (kindAt (gridPlace k) ≡ k)
     go true p true q c r d s e = low-kind k (leb-true 3 k p) (leb-true k 10 q)
     go true p false q true r true s e = high-kind k (leb-true 13 k r) (leb-true k 15 s)
@@ -85,7 +86,12 @@ grid-low k h = go (leb 3 k) refl (leb 13 k) refl h
 pub no-standing : (s k w : ℕ) → 3 ≤ w → gridRule s k w ≡ 6
 unfolding gridRule
 no-standing s k w h =
-    rw (ne-eqb w 0 (λ q. absurd (omega arith)), ne-eqb w 1 (λ q. absurd (omega arith)), ne-eqb w 2 (λ q. absurd (omega arith)), lt-leb w 1 (omega arith))
+    rw (
+      ne-eqb w 0 (λ q. absurd (omega arith)),
+      ne-eqb w 1 (λ q. absurd (omega arith)),
+      ne-eqb w 2 (λ q. absurd (omega arith)),
+      lt-leb w 1 (omega arith),
+    )
     (go (among k (3 ∷ 5 ∷ 9 ∷ 10 ∷ [])) (eqb k 4) (among k (6 ∷ 7 ∷ 8 ∷ [])))
   where
     go : (a b c : Bool) → _≡_ {A = ℕ} (cond (cond a false (cond b false (cond c false false))) (cond (statusFor k s) 0 7) 6) 6

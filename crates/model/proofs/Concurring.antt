@@ -1,4 +1,5 @@
--- Due dates have to agree, request A4: where 18 holds no other refusal over the worked version does, and what an accepted concurrence leaves.
+-- Due dates have to agree, request A4: where 18 holds no other refusal over the worked version does, and what an accepted concurrence
+-- leaves.
 -- Assumes nothing.
 use mathlib.Core.Path.{_≡_, refl, sym, _∙_}
 use Prim.Native.Nat.{ℕ}

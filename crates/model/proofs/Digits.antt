@@ -1,5 +1,5 @@
--- Digits of a number to a base: a digit does not see what is added to, or taken from, another digit, as long as that one neither overflows nor
--- falls below 0. With that, the retries of one system do not see those of another.
+-- Digits of a number to a base: a digit does not see what is added to, or taken from, another digit, as long as that one neither overflows
+-- nor falls below 0. With that, the retries of one system do not see those of another.
 -- Assumes nothing.
 use mathlib.Core.Path.{_≡_, refl, sym, ap, ap₂, _∙_, subst}
 use Prim.Native.Nat.{ℕ, zero, suc, _+_, _-_, _*_, _/_, _%_, _^_, _≤_, _<_}
@@ -8,7 +8,9 @@ use lib.Dec.{leb, ltb, lit<}
 use lib.ListN.{getD}
 use mathlib.Core.List.{List, [], _∷_}
 use lib.Arith.{digits-div, digits-mod, digits-lt}
-use native.Mathlib.Nat.{pow-zero, pow-suc, pow-succ', mul-one, mul-suc, mul-left-comm, div-one, div-div-eq-div-mul, div-add-mod', div-mul-le-self, mod-le, mod-lt, le-trans, mul-le-mul-right, add-mul-div-left, add-mul-mod-self-left, sub-add-cancel, zero-div, add-mul, add-zero, zero-mul, div-lt-iff-lt-mul}
+use native.Mathlib.Nat.{pow-zero, pow-suc, pow-succ', mul-one, mul-suc, mul-left-comm, div-one, div-div-eq-div-mul, div-add-mod'}
+use native.Mathlib.Nat.{div-mul-le-self, mod-le, mod-lt, le-trans, mul-le-mul-right, add-mul-div-left, add-mul-mod-self-left}
+use native.Mathlib.Nat.{sub-add-cancel, zero-div, add-mul, add-zero, zero-mul, div-lt-iff-lt-mul}
 use native.Mathlib.Omega.{arith}
 use lib.Pow.{pow-pos, pow-add}
 use borrow.Author.Tests.{leb-true, leb-false, ltb-true, lt-ltb}
@@ -43,7 +45,8 @@ module _ (b : ℕ) where
     digit-add zero zero k x n h = absurd (n refl)
     digit-add zero (suc q) k x n h =
         let g : x % b + k < b = rw digit-zero at h in
-        rw (digit-suc, digit-suc, pow-zero, mul-one) (ap (digit b q) (ap (λ (y : ℕ). y / b) (omega (arith, div-add-mod' x b)) ∙ digits-div (x / b) g))
+        rw (digit-suc, digit-suc, pow-zero, mul-one)
+        (ap (digit b q) (ap (λ (y : ℕ). y / b) (omega (arith, div-add-mod' x b)) ∙ digits-div (x / b) g))
     digit-add (suc p) zero k x n h = rw (digit-zero, digit-zero, shift) (add-mul-mod-self-left x b (k * b ^ p))
     digit-add (suc p) (suc q) k x n h =
         rw (digit-suc, digit-suc, shift, add-mul-div-left x (k * b ^ p) pos)
@@ -57,7 +60,8 @@ module _ (b : ℕ) where
     digit-sub zero (suc q) k x n h =
         let g : k ≤ x % b = rw digit-zero at h in
         rw (digit-suc, digit-suc, pow-zero, mul-one)
-        (ap (digit b q) (ap (λ (y : ℕ). y / b) (omega (arith, div-add-mod' x b)) ∙ digits-div (x / b) {r = x % b - k} (omega (arith, mod-lt x pos))))
+        (ap (digit b q) (ap (λ (y : ℕ). y / b) (omega (arith, div-add-mod' x b))
+        ∙ digits-div (x / b) {r = x % b - k} (omega (arith, mod-lt x pos))))
     digit-sub (suc p) zero k x n h =
         let z : ℕ = k * b ^ p in
         let g : b * z ≤ x = rw shift at (fits (suc p) k x h) in
@@ -119,7 +123,9 @@ octal-other q j d w n h =
     let x : ℕ = octal q w in
     let v : ℕ = w - x * 8 ^ q in
     let e : withOctal q d w ≡ v + d * 8 ^ q = taken q d w in
-    let z : digit 8 q v ≡ 0 = sym (octal-digit q v) ∙ ap (octal q) (sym (add-zero v) ∙ ap (λ (k : ℕ). v + k) (sym (zero-mul (8 ^ q))) ∙ sym (taken q 0 w)) ∙ octal-same q 0 w (lit< tt) in
+    let z : digit 8 q v ≡ 0 = sym (octal-digit q v)
+    ∙ ap (octal q) (sym (add-zero v) ∙ ap (λ (k : ℕ). v + k) (sym (zero-mul (8 ^ q))) ∙ sym (taken q 0 w))
+    ∙ octal-same q 0 w (lit< tt) in
     octal-digit j (withOctal q d w)
     ∙ ap (digit 8 j) e
     ∙ digit-add 8 (lit< tt) q j d v n (omega arith)
@@ -195,7 +201,12 @@ module _ (r : Retries) (p d : ℕ) (h : d < 8) where
       go : (a : Bool) → leb p 21 ≡ a → (b : Bool) → leb p 42 ≡ b → (x : Bool) → leb q 21 ≡ x → (y : Bool) → leb q 42 ≡ y
           → withUsed (withUsed r p d) q c ≡ withUsed (withUsed r q c) p d
       go true e b f true i y j =
-          rw (e, i) (λ m. record { low = octal-comm (p - 1) (q - 1) d c (r .low) (λ z. n (omega arith)) h k m; mid = r .mid; high = r .high })
+          rw (e, i) (λ m. record {
+            low = octal-comm (p - 1) (q - 1) d c (r .low) (λ z. n (omega arith))
+                h k m;
+            mid = r .mid;
+            high = r .high;
+          })
       go true e b f false i true j = rw (e, i, j)
       go true e b f false i false j = rw (e, i, j)
       go false e true f true i y j = rw (e, f, i)

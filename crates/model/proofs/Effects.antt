@@ -80,7 +80,8 @@ pub closing-two : (v : Version) → length (settlingTold v) ≤ 2
 unfolding settlingTold closingTold
 closing-two v = go (open? v) (eqb (v .cast .purpose) 1)
   where
-    go : (a b : Bool) → length (cond a [] (toSoas (closed v) 2 (v .cast .failed) (record { 0 = 0 }) (cond b (sidesTold v) (v .new .provider ∷ [])))) ≤ 2
+    go : (a b : Bool) → length
+        (cond a [] (toSoas (closed v) 2 (v .cast .failed) (record { 0 = 0 }) (cond b (sidesTold v) (v .new .provider ∷ [])))) ≤ 2
     go true b = omega arith
     go false true = omega arith
     go false false = omega arith
@@ -91,7 +92,12 @@ unfolding settlingTold
 broadcast-few w = go (open? w) refl
   where
     go : (b : Bool) → open? w ≡ b → length (downloads w ++ settlingTold w) ≤ 63
-    go true q = rw q (omega (arith, length-append (downloads w) [], length-map (members (w .cast .waiting)) (downloadTo w), members-few (w .cast .waiting)))
+    go true q = rw q (omega (
+      arith,
+      length-append (downloads w) [],
+      length-map (members (w .cast .waiting)) (downloadTo w),
+      members-few (w .cast .waiting),
+    ))
     go false q =
         let z : w .cast .waiting ≡ 0 = eqb-true (w .cast .waiting) 0 (not-false (eqb (w .cast .waiting) 0) q) in
         let none : downloads w ≡ [] = ap (λ (s : ℕ). map (downloadTo w) (members s)) z ∙ ap (map (downloadTo w)) no-members in
@@ -101,7 +107,12 @@ modest-answers : (most : ℕ) (e : Event) (v : Version) (others : List Version) 
 unfolding answers askedAgain
 modest-answers most e v others =
     modest-accept _ _
-    (omega (arith, length-append (askedAgain most e v) (settlingTold (heard most e v)), closing-two (heard most e v), one (again most e (v .cast))))
+    (omega (
+      arith,
+      length-append (askedAgain most e v) (settlingTold (heard most e v)),
+      closing-two (heard most e v),
+      one (again most e (v .cast)),
+    ))
   where
     one : (b : Bool) → length (cond b (downloadTo v (answering e) ∷ []) []) ≤ 1
     one true = omega arith
@@ -152,5 +163,6 @@ fine-step s e t = go (unsound s t)
     go false = fine (line s) (ruleIn s) (local (line s) s) (s .rows) e t
 
 -- the rows of every other number stay
-pub other-rows : (s : Setting) (e : Event) (t : List Version) (l : ℕ) → (line s (e .tn .0) ≡ l → ⊥) → rowsOf (line s) l (after (stepOf s) e t) ≡ rowsOf (line s) l t
+pub other-rows : (s : Setting) (e : Event) (t : List Version) (l : ℕ) → (line s (e .tn .0) ≡ l → ⊥)
+    → rowsOf (line s) l (after (stepOf s) e t) ≡ rowsOf (line s) l t
 other-rows s e t l n = rows-out (line s) (line s (e .tn .0)) l (stepOf s e t .does) t (fine-step s e t .near) n

@@ -8,7 +8,8 @@ use lib.Dec.{eqb, ltb}
 use lib.ListN.{getD}
 use borrow.Author.Tests.{eqb-true, ltb-true}
 use Rattle.model.specs.Numbers.{tenDigits}
-use Rattle.model.specs.Record.{isPlain, isAnswer, named, unused, results, plainly, newCreates, oldCreates, newModifies, oldModifies, modifiesActive, replies, silent, kindFits, fitsBits, wellFormed}
+use Rattle.model.specs.Record.{isPlain, isAnswer, named, unused, results, plainly, newCreates, oldCreates, newModifies, oldModifies}
+use Rattle.model.specs.Record.{modifiesActive, replies, silent, kindFits, fitsBits, wellFormed}
 use Rattle.model.specs.Answers.{answering}
 use Rattle.model.proofs.Lists.{clash, conj-at}
 use Rattle.model.specs.declared.Event.{Event}
@@ -40,8 +41,10 @@ module _ (e : Event) (h : wellFormed e ≡ true) where
   unfolding wellFormed fitsBits
   fields =
       let all : List Bool = fitsBits e ∷ tenDigits (e .tn .0) ∷ named (e .time) ∷ kindFits e ∷ [] in
-      let bits : List Bool = ltb (e .kind) (2 ^ 8) ∷ ltb (e .sender) (2 ^ 6) ∷ ltb (e .other) (2 ^ 6) ∷ ltb (e .mark) (2 ^ 2) ∷ ltb (e .cause) (2 ^ 8)
-      ∷ ltb (e .tn .0) (2 ^ 34) ∷ ltb (e .lrn .0) (2 ^ 34) ∷ ltb (e .version) (2 ^ 16) ∷ ltb (e .time) (2 ^ 32) ∷ ltb (e .due) (2 ^ 32) ∷ [] in
+      let bits : List Bool = ltb (e .kind) (2 ^ 8) ∷ ltb (e .sender) (2 ^ 6) ∷ ltb (e .other) (2 ^ 6) ∷ ltb (e .mark) (2 ^ 2)
+      ∷ ltb (e .cause) (2 ^ 8)
+      ∷ ltb (e .tn .0) (2 ^ 34) ∷ ltb (e .lrn .0) (2 ^ 34) ∷ ltb (e .version) (2 ^ 16) ∷ ltb (e .time) (2 ^ 32)
+      ∷ ltb (e .due) (2 ^ 32) ∷ [] in
       let of : (i : ℕ) → getD all i true ≡ true = conj-at all h in
       let bit : (i : ℕ) → getD bits i true ≡ true = conj-at bits (of 0) in
       record {
@@ -66,8 +69,18 @@ module _ (e : Event) (h : wellFormed e ≡ true) where
       go : (x : Bool) → eqb (e .kind) 11 ≡ x → (y : Bool) → eqb (e .kind) 12 ≡ y → (1 ≤ answering e) × (answering e < 64)
       go true p y q =
           let r : replies e ≡ true = at-kind 11 (eqb-true (e .kind) 11 p) in
-          rw p (ltb-true 0 (e .sender) (conj-at (named (e .sender) ∷ unused (e .other) ∷ results (e .mark) ∷ unused (e .cause) ∷ unused (e .lrn .0) ∷ named (e .version) ∷ unused (e .due) ∷ []) r 0), fields .sender)
+          rw p (
+            ltb-true 0 (e .sender)
+                (conj-at (named (e .sender) ∷ unused (e .other) ∷ results (e .mark) ∷ unused (e .cause) ∷ unused (e .lrn .0)
+                ∷ named (e .version) ∷ unused (e .due) ∷ []) r 0),
+            fields .sender,
+          )
       go false p true q =
           let r : silent e ≡ true = at-kind 12 (eqb-true (e .kind) 12 q) in
-          rw p (ltb-true 0 (e .other) (conj-at (unused (e .sender) ∷ named (e .other) ∷ unused (e .mark) ∷ unused (e .cause) ∷ unused (e .lrn .0) ∷ named (e .version) ∷ unused (e .due) ∷ []) r 1), fields .other)
+          rw p (
+            ltb-true 0 (e .other)
+                (conj-at (unused (e .sender) ∷ named (e .other) ∷ unused (e .mark) ∷ unused (e .cause) ∷ unused (e .lrn .0)
+                ∷ named (e .version) ∷ unused (e .due) ∷ []) r 1),
+            fields .other,
+          )
       go false p false q = clash (rw (p, q) at a)

@@ -133,7 +133,8 @@ pub all-append : {A : Type 0} {P : A → Type 0} {x y : List A} → All P x → 
 all-append none k = k
 all-append (with h hs) k = with h (all-append hs k)
 
-pub all-map : {A B : Type 0} (Q : A → Type 0) {P : B → Type 0} (f : A → B) {l : List A} → All Q l → ((a : A) → Q a → P (f a)) → All P (map f l)
+pub all-map : {A B : Type 0} (Q : A → Type 0) {P : B → Type 0} (f : A → B) {l : List A} → All Q l → ((a : A) → Q a → P (f a))
+    → All P (map f l)
 all-map Q f none h = none
 all-map Q f (with q qs) h = with (h _ q) (all-map Q f qs h)
 

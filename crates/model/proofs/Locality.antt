@@ -150,7 +150,8 @@ module _ (lineOf : ℕ → ℕ) (e : Event) where
   unfolding windowTurned
   fine-turned v h = fine-turns lineOf L (windowTurned e v) (either Own (eqb (v .status) 2) h h)
 
-  fine-broadcasts : (bk : Books) (v : Version) (others : List Version) → Own v → Rows lineOf L others → Fine lineOf L (broadcasts bk e v others)
+  fine-broadcasts : (bk : Books) (v : Version) (others : List Version) → Own v → Rows lineOf L others
+      → Fine lineOf L (broadcasts bk e v others)
   unfolding broadcasts opened
   fine-broadcasts bk v others h k =
       let w : Version = opened (selectedFor bk (v .id .tn)) e v in

@@ -1,6 +1,6 @@
 -- The version of a line that has a number: what puts leave of it.
 -- Assumes nothing.
-use mathlib.Core.Path.{_≡_, refl, sym, ap, _∙_, subst}
+use mathlib.Core.Path.{_≡_, refl, sym, ap, _∙_}
 use Prim.Native.Nat.{ℕ, Ordering, Ordering·lt, Ordering·eq, Ordering·gt}
 use mathlib.Core.Bool.{Bool, true, false}
 use mathlib.Core.Option.{some}
@@ -22,7 +22,8 @@ with-number n r v q = eqb-true (v .id .number) n (first-true (numbered n) r v q)
 -- what is found behind a row stands above it
 pub with-above : (n : ℕ) (x : Version) (xs : List Version) (v : Version) → Rising (x ∷ xs) → withNumber n xs ≡ some v
     → order (x .id) (v .id) ≡ Ordering·lt
-with-above n x xs v s q = all-first {P = λ (y : Version). order (x .id) (y .id) ≡ Ordering·lt} (numbered n) v (above (x .id) xs (s .0) (s .1)) q
+with-above n x xs v s q = all-first {P = λ (y : Version). order (x .id) (y .id) ≡ Ordering·lt} (numbered n) v
+    (above (x .id) xs (s .0) (s .1)) q
 
 -- a put over it
 pub with-put : (n : ℕ) (r : List Version) (v w : Version) → Rising r → withNumber n r ≡ some v → w .id ≡ v .id
@@ -39,7 +40,8 @@ with-put n (x ∷ xs) v w s q i = go (numbered n x) refl (with-put n xs v w (s .
         rw (ap (λ (k : Id). order k (x .id)) j ∙ order-self (x .id), here)
     go false e ih =
         let a : withNumber n xs ≡ some v = rw e at q in
-        let up : order (w .id) (x .id) ≡ Ordering·gt = ap (λ (k : Id). order k (x .id)) i ∙ order-lt (x .id) (v .id) (with-above n x xs v s a) in
+        let up : order (w .id) (x .id) ≡ Ordering·gt = ap (λ (k : Id). order k (x .id)) i
+        ∙ order-lt (x .id) (v .id) (with-above n x xs v s a) in
         rw (up, e) (ih a i)
 
 -- a put of another number does not touch it

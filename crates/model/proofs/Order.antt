@@ -68,7 +68,11 @@ order-gt a b h = go (compare (a .tn .0) (b .tn .0)) refl
     go : (o : Ordering) → compare (a .tn .0) (b .tn .0) ≡ o → order b a ≡ Ordering·lt
     go Ordering·lt e = cc (rw e at h)
     go Ordering·eq e =
-        rw (of-eq (b .tn .0) (a .tn .0) (sym (eq-of (a .tn .0) (b .tn .0) e)), of-lt (b .number) (a .number) (gt-of (a .number) (b .number) (rw e at h)))
+        rw (
+          of-eq (b .tn .0) (a .tn .0) (sym (eq-of (a .tn .0) (b .tn .0) e)),
+          of-lt (b .number) (a .number)
+              (gt-of (a .number) (b .number) (rw e at h)),
+        )
     go Ordering·gt e = rw (of-lt (b .tn .0) (a .tn .0) (gt-of (a .tn .0) (b .tn .0) e))
 
 pub order-lt : (a b : Id) → order a b ≡ Ordering·lt → order b a ≡ Ordering·gt
@@ -78,7 +82,11 @@ order-lt a b h = go (compare (a .tn .0) (b .tn .0)) refl
     go : (o : Ordering) → compare (a .tn .0) (b .tn .0) ≡ o → order b a ≡ Ordering·gt
     go Ordering·lt e = rw (of-gt (b .tn .0) (a .tn .0) (lt-of (a .tn .0) (b .tn .0) e))
     go Ordering·eq e =
-        rw (of-eq (b .tn .0) (a .tn .0) (sym (eq-of (a .tn .0) (b .tn .0) e)), of-gt (b .number) (a .number) (lt-of (a .number) (b .number) (rw e at h)))
+        rw (
+          of-eq (b .tn .0) (a .tn .0) (sym (eq-of (a .tn .0) (b .tn .0) e)),
+          of-gt (b .number) (a .number)
+              (lt-of (a .number) (b .number) (rw e at h)),
+        )
     go Ordering·gt e = cc (rw e at h)
 
 pub order-trans : (a b c : Id) → order a b ≡ Ordering·lt → order b c ≡ Ordering·lt → order a c ≡ Ordering·lt
@@ -102,6 +110,10 @@ order-trans a b c h k = go (compare (a .tn .0) (b .tn .0)) refl (compare (b .tn 
     go Ordering·eq e Ordering·eq f =
         let x : (a .number) < (b .number) = lt-of (a .number) (b .number) (rw e at h) in
         let y : (b .number) < (c .number) = lt-of (b .number) (c .number) (rw f at k) in
-        rw (of-eq (a .tn .0) (c .tn .0) (eq-of (a .tn .0) (b .tn .0) e ∙ eq-of (b .tn .0) (c .tn .0) f), of-lt (a .number) (c .number) (omega arith))
+        rw (
+          of-eq (a .tn .0) (c .tn .0) (eq-of (a .tn .0) (b .tn .0) e ∙ eq-of (b .tn .0) (c .tn .0) f),
+          of-lt (a .number)
+              (c .number) (omega arith),
+        )
     go Ordering·eq e Ordering·gt f = cc (rw f at k)
     go Ordering·gt e p f = cc (rw e at h)

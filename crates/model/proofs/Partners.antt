@@ -1,5 +1,5 @@
--- The line of a TN by sound splits: partners are each other's, and two TNs name one line exactly where they are one TN, or have the last four
--- digits in common and partners as codes. Assumes nothing.
+-- The line of a TN by sound splits: partners are each other's, and two TNs name one line exactly where they are one TN, or have the last
+-- four digits in common and partners as codes. Assumes nothing.
 use mathlib.Core.Path.{_≡_, refl, sym, ap, ap₂, _∙_, subst}
 use mathlib.Core.Bool.{Bool, true, false, cond, not, _&&_}
 use mathlib.Core.Logic.{_⊎_, inl, inr, ⊎-elim}
@@ -7,7 +7,7 @@ use mathlib.Core.List.{List, [], _∷_}
 use Prim.Native.Nat.{ℕ, _+_, _*_, _/_, _%_, _≤_, _<_}
 use native.Mathlib.Nat.{ne-of-gt}
 use native.Mathlib.Omega.{arith}
-use borrow.Author.Tests.{eq-eqb, ne-eqb, eqb-true, eqb-false, leb-true, leb-false, le-leb, ltb-true, not-true}
+use borrow.Author.Tests.{eq-eqb, ne-eqb, eqb-true, eqb-false, leb-true, leb-false, ltb-true, not-true}
 use lib.Dec.{eqb, leb, ltb}
 use lib.ListN.{length, getD}
 use Rattle.model.specs.Basics.{all}
@@ -87,7 +87,8 @@ pub record Apart (x : Split) (xs : List Split) : Type 0 where
 
 pub once-apart : (x : Split) (xs : List Split) → splitOnce (x ∷ xs) ≡ true → Apart x xs
 once-apart x xs e =
-    let of : (i : ℕ) → getD (not (eqb (x .one) (x .other)) ∷ unsplit (x .one) xs ∷ unsplit (x .other) xs ∷ splitOnce xs ∷ []) i true ≡ true =
+    let of : (i : ℕ) → getD (not (eqb (x .one) (x .other)) ∷ unsplit (x .one) xs ∷ unsplit (x .other) xs ∷ splitOnce xs ∷ []) i true
+    ≡ true =
     conj-at (not (eqb (x .one) (x .other)) ∷ unsplit (x .one) xs ∷ unsplit (x .other) xs ∷ splitOnce xs ∷ []) e in
     record {
       differ = eqb-false _ _ (not-true _ (of 0));
@@ -112,7 +113,8 @@ first-back x xs a =
 pub first-forth : (x : Split) (xs : List Split) → partnerIn (x .one) (x ∷ xs) ≡ x .other
 first-forth x xs = rw (eq-eqb (x .one) (x .one) refl)
 
-pub partner-back : (xs : List Split) → splitOnce xs ≡ true → all codes xs ≡ true → (c d : ℕ) → partnerIn c xs ≡ d → 0 < d → partnerIn d xs ≡ c
+pub partner-back : (xs : List Split) → splitOnce xs ≡ true → all codes xs ≡ true → (c d : ℕ) → partnerIn c xs ≡ d
+    → 0 < d → partnerIn d xs ≡ c
 partner-back [] o e c d q h = absurd (omega arith)
 partner-back (x ∷ xs) o e c d q h =
     let a = once-apart x xs o in
@@ -302,6 +304,7 @@ module _ (P : ℕ → ℕ → Bool) where
       let k = and-l (codes x) (all codes xs) e in
       both-true (pairwise x) (all pairwise xs)
       (f (x .one) (x .other) (first-forth x xs) (first-back x xs a)
-      (code-above (x .one) (and-l (isCode (x .one)) (isCode (x .other)) k)) (code-above (x .other) (and-r (isCode (x .one)) (isCode (x .other)) k)) (a .differ))
+      (code-above (x .one) (and-l (isCode (x .one)) (isCode (x .other)) k))
+      (code-above (x .other) (and-r (isCode (x .one)) (isCode (x .other)) k)) (a .differ))
       (partners-pairs xs (a .rest) (and-r (codes x) (all codes xs) e)
       (λ c d p q h j n. f c d (elsewhere x xs a c (omega (arith, p)) ∙ p) (elsewhere x xs a d (omega (arith, q)) ∙ q) h j n))

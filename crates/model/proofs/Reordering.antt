@@ -47,22 +47,28 @@ module _ (s : Setting) (small : s .most ≤ 7) where
   commute-lines : (n : ℕ) (e f : Event) (t : List Version) → (line s (e .tn .0) ≡ line s (f .tn .0) → ⊥) → Good (s .rows) (suc (suc n)) t
       → Commutes (line s) (bare s) e f t
   commute-lines n e f t d g =
-      apart (line s) (ruleIn s) (local (line s) s) (s .rows) e f t d (g .rising) (let h : length t + suc (suc n) ≤ s .rows = g .room in omega arith)
+      apart (line s) (ruleIn s) (local (line s) s) (s .rows) e f t d (g .rising)
+      (let h : length t + suc (suc n) ≤ s .rows = g .room in omega arith)
 
   -- answers for one version: this knows the rule of answers
-  commute-answers : (n : ℕ) (e f : Event) (t : List Version) → Answers (line s) e f → Good (s .rows) (suc (suc n)) t → Commutes (line s) (bare s) e f t
+  commute-answers : (n : ℕ) (e f : Event) (t : List Version) → Answers (line s) e f → Good (s .rows) (suc (suc n)) t
+      → Commutes (line s) (bare s) e f t
   commute-answers n e f t a g =
-      replies-commute (line s) s small (e .version) (line s (e .tn .0)) t (g .rising) e f (a .first) (a .second) refl (sym (a .versions)) refl
+      replies-commute (line s) s small (e .version) (line s (e .tn .0)) t (g .rising) e f (a .first) (a .second) refl
+      (sym (a .versions)) refl
       (sym (a .lines)) (a .systems)
 
-  commute : (n : ℕ) (e f : Event) (t : List Version) → Exchangeable (line s) e f → Good (s .rows) (suc (suc n)) t → Commutes (line s) (bare s) e f t
+  commute : (n : ℕ) (e f : Event) (t : List Version) → Exchangeable (line s) e f → Good (s .rows) (suc (suc n)) t
+      → Commutes (line s) (bare s) e f t
   commute n e f t (lines d) g = commute-lines n e f t d g
   commute n e f t (answers a) g = commute-answers n e f t a g
 
-  bare-same : (ns : List ℕ) (es : List Event) (t : List Version) → Rising t → length t + length es ≤ s .rows → May (Exchangeable (line s)) ns es → Same (line s) (bare s) ns es t
+  bare-same : (ns : List ℕ) (es : List Event) (t : List Version) → Rising t → length t + length es ≤ s .rows
+      → May (Exchangeable (line s)) ns es → Same (line s) (bare s) ns es t
   bare-same ns es t r room may =
       same-events (line s) (bare s) ns es t
-      (all (stepping (bare s)) (reads (line s)) (Good (s .rows)) next (Exchangeable (line s)) commute ns es t may (record { rising = r; room = room }))
+      (all (stepping (bare s)) (reads (line s)) (Good (s .rows)) next (Exchangeable (line s)) commute ns es t may
+      (record { rising = r; room = room }))
 
 -- ---- with it: where every step keeps a table that passes, the test changes nothing
 
@@ -84,12 +90,14 @@ sane-of s t h =
 
 pub of-sane : (s : Setting) (t : List Version) → Sane s t → unsound s t ≡ false
 unfolding unsound
-of-sane s t r = ap not (conj-all (saneClauses s t) (with (says-table (line s) (s .rows) t (r .table)) (with (r .books) (with (r .retries) (with (r .places) none)))))
+of-sane s t r = ap not (conj-all (saneClauses s t)
+    (with (says-table (line s) (s .rows) t (r .table)) (with (r .books) (with (r .retries) (with (r .places) none)))))
 
 pub bare-keeps : (s : Setting) (e : Event) (t : List Version) → unsound s t ≡ false → unsound s (after (bare s) e t) ≡ false
 bare-keeps s e t h =
     let r : Sane s t = sane-of s t h in
-    of-sane s (after (bare s) e t) (record { table = sound-rules (line s) s (r .retries) e t (r .table); books = r .books; retries = r .retries; places = r .places })
+    of-sane s (after (bare s) e t)
+    (record { table = sound-rules (line s) s (r .retries) e t (r .table); books = r .books; retries = r .retries; places = r .places })
 
 pub step-is : (s : Setting) (e : Event) (t : List Version) → unsound s t ≡ false → stepOf s e t ≡ bare s e t
 unfolding step
@@ -102,13 +110,16 @@ module _ (s : Setting) where
 
   same-outcomes : (es : List Event) (t : List Version) → unsound s t ≡ false → outcomes (stepOf s) es t ≡ outcomes (bare s) es t
   same-outcomes [] t h = refl
-  same-outcomes (e ∷ es) t h = rw (step-is s e t h) (ap (λ (l : List Outcome). bare s e t .out ∷ l) (same-outcomes es (after (bare s) e t) (bare-keeps s e t h)))
+  same-outcomes (e ∷ es) t h =
+      rw (step-is s e t h) (ap (λ (l : List Outcome). bare s e t .out ∷ l) (same-outcomes es (after (bare s) e t) (bare-keeps s e t h)))
 
   same-messages : (es : List Event) (t : List Version) → unsound s t ≡ false → messages (stepOf s) es t ≡ messages (bare s) es t
   same-messages [] t h = refl
-  same-messages (e ∷ es) t h = rw (step-is s e t h) (ap (λ (l : List Message). bare s e t .sent ++ l) (same-messages es (after (bare s) e t) (bare-keeps s e t h)))
+  same-messages (e ∷ es) t h =
+      rw (step-is s e t h) (ap (λ (l : List Message). bare s e t .sent ++ l) (same-messages es (after (bare s) e t) (bare-keeps s e t h)))
 
-  pub same-guarded : (ns : List ℕ) (es : List Event) (t : List Version) → unsound s t ≡ false → Same (line s) (bare s) ns es t → Same (line s) (stepOf s) ns es t
+  pub same-guarded : (ns : List ℕ) (es : List Event) (t : List Version) → unsound s t ≡ false → Same (line s) (bare s) ns es t
+      → Same (line s) (stepOf s) ns es t
   same-guarded ns es t h r = record {
     tables = same-final (reorder ns es) t h ∙ r .tables ∙ sym (same-final es t h);
     outs = same-outcomes (reorder ns es) t h ∙ r .outs ∙ ap (reorder ns) (sym (same-outcomes es t h));

@@ -85,12 +85,15 @@ module _ (line : ℕ → ℕ) where
       go false x = refl
 
   asked-swap : (most : ℕ) (e f : Event) (v : Version) (x : Bool) (s l : ℕ) → (answering e ≡ answering f → ⊥)
-      → mail x s l (askedAgain most e v) ++ mail x s l (askedAgain most f v) ≡ mail x s l (askedAgain most f v) ++ mail x s l (askedAgain most e v)
+      → mail x s l (askedAgain most e v) ++ mail x s l (askedAgain most f v) ≡ mail x s l (askedAgain most f v)
+      ++ mail x s l (askedAgain most e v)
   asked-swap most e f v x s l d = go (eqb (answering e) s) refl
     where
       go : (b : Bool) → eqb (answering e) s ≡ b
-          → mail x s l (askedAgain most e v) ++ mail x s l (askedAgain most f v) ≡ mail x s l (askedAgain most f v) ++ mail x s l (askedAgain most e v)
-      go true q = rw (asked-else most f v x s l (λ y. d (eqb-true (answering e) s q ∙ sym y))) (append-nil (mail x s l (askedAgain most e v)))
+          → mail x s l (askedAgain most e v) ++ mail x s l (askedAgain most f v) ≡ mail x s l (askedAgain most f v)
+          ++ mail x s l (askedAgain most e v)
+      go true q = rw (asked-else most f v x s l (λ y. d (eqb-true (answering e) s q ∙ sym y)))
+          (append-nil (mail x s l (askedAgain most e v)))
       go false q = rw (asked-else most e v x s l (eqb-false (answering e) s q)) (sym (append-nil (mail x s l (askedAgain most f v))))
 
 -- kinds 11 and 12 are no creates
@@ -149,7 +152,8 @@ module _ (line : ℕ → ℕ) (s : Setting) where
         ∙ sym (ap₂ (λ (u v : Result). keep (reads line r) (u .sent ++ v .sent)) q q′);
   }
     where
-      parts : (w : Bool) (i n : ℕ) (a b : List Message) → mail line w i n (a ++ (b ++ m)) ≡ mail line w i n a ++ mail line w i n b ++ mail line w i n m
+      parts : (w : Bool) (i n : ℕ) (a b : List Message) → mail line w i n (a ++ (b ++ m)) ≡ mail line w i n a ++ mail line w i n b
+          ++ mail line w i n m
       parts w i n a b = simp (keep-append, append-assoc)
 
   -- ---- what an answer gets
@@ -168,7 +172,8 @@ module _ (line : ℕ → ℕ) (s : Setting) where
       formed : wellFormed g ≡ true
       formed = go (wellFormed g) refl free
         where
-          go : (a : Bool) → wellFormed g ≡ a → isDone (cond a (cond (absent (s .books) g) Absent Done) Malformed) ≡ true → wellFormed g ≡ true
+          go : (a : Bool) → wellFormed g ≡ a → isDone (cond a (cond (absent (s .books) g) Absent Done) Malformed) ≡ true
+              → wellFormed g ≡ true
           go true p h = p
           go false p h = clash h
 
@@ -197,12 +202,14 @@ module _ (line : ℕ → ℕ) (s : Setting) where
           → S g t ≡ unless (unheard g v) (answers (s .most) g v (besides k (rowsOf line l t)))
       if-found t v h =
           subst
-          (λ (m : ℕ). withNumber k (rowsOf line m t) ≡ some v → S g t ≡ unless (unheard g v) (answers (s .most) g v (besides k (rowsOf line m t)))) own
+          (λ (m : ℕ). withNumber k (rowsOf line m t) ≡ some v
+          → S g t ≡ unless (unheard g v) (answers (s .most) g v (besides k (rowsOf line m t)))) own
           (subst
           (λ (j : ℕ). withNumber j (rowsOf line (line (g .tn .0)) t) ≡ some v
           → S g t ≡ unless (unheard g v) (answers (s .most) g v (besides j (rowsOf line (line (g .tn .0)) t)))) name (found-is _ _ v)) h
 
-      if-deaf : (t : List Version) (v : Version) → withNumber k (rowsOf line l t) ≡ some v → isDone (unheard g v) ≡ false → S g t ≡ refuse (unheard g v)
+      if-deaf : (t : List Version) (v : Version) → withNumber k (rowsOf line l t) ≡ some v → isDone (unheard g v) ≡ false
+          → S g t ≡ refuse (unheard g v)
       if-deaf t v h u = if-found t v h ∙ rw u
 
       if-heard : (t : List Version) (v : Version) → withNumber k (rowsOf line l t) ≡ some v → Hears g v
@@ -222,10 +229,12 @@ module _ (line : ℕ → ℕ) (s : Setting) where
       found-after t v r h u =
           ap (withNumber k) (rows-after t r ∙ ap (λ (x : Result). changes (x .does) (rowsOf line l t)) (if-heard t v h u))
           ∙ with-settles k (heard (s .most) g v) (rowsOf line l t) (change (put (settled (heard (s .most) g v))) (rowsOf line l t))
-          ∙ with-put k (rowsOf line l t) v (settled (heard (s .most) g v)) (rising-part (inLine line l) t r) h (settled-id (heard (s .most) g v))
+          ∙ with-put k (rowsOf line l t) v (settled (heard (s .most) g v)) (rising-part (inLine line l) t r) h
+          (settled-id (heard (s .most) g v))
 
       -- the same where somebody else waits: the version is the one it put, and the other rows are as before
-      open-step : (t : List Version) (v : Version) → withNumber k (rowsOf line l t) ≡ some v → Hears g v → open? (heard (s .most) g v) ≡ true
+      open-step : (t : List Version) (v : Version) → withNumber k (rowsOf line l t) ≡ some v → Hears g v
+          → open? (heard (s .most) g v) ≡ true
           → S g t ≡ accept (askedAgain (s .most) g v) (put (heard (s .most) g v) ∷ [])
       open-step t v h u o = if-heard t v h u ∙ answers-open (s .most) g v (besides k (rowsOf line l t)) o
 
@@ -272,7 +281,8 @@ module _ (line : ℕ → ℕ) (s : Setting) where
             (found-after f (yf .isA) k (yf .name) l (yf .own) (yf .free) t v r h q)
             (ap isDone same ∙ ue)
             ∙ ap refuse same
-        go false q = ap (S e) (ap (λ (x : Result). changes (x .does) t) (if-deaf f (yf .isA) k (yf .name) l (yf .own) (yf .free) t v h q)) ∙ p
+        go false q = ap (S e) (ap (λ (x : Result). changes (x .does) t) (if-deaf f (yf .isA) k (yf .name) l (yf .own) (yf .free) t v h q))
+            ∙ p
 
     lost : (e f : Event) → Ready e k l → Ready f k l → withNumber k R ≡ nothing → Both e f t
     lost e f ye yf h =
@@ -301,7 +311,8 @@ module _ (line : ℕ → ℕ) (s : Setting) where
           let n : eqb (v .id .number) k ≡ true = first-true (numbered k) R v h in
           let er : rowsOf line l (A e t) ≡ change (put w) R =
           open-rows e (ye .isA) k (ye .name) l (ye .own) (ye .free) t v r h ue (still-open e f ye yf d ue uf) in
-          if-heard f (yf .isA) k (yf .name) l (yf .own) (yf .free) (A e t) w (ap (withNumber k) er ∙ with-put k R v w (rising-part (inLine line l) t r) h refl)
+          if-heard f (yf .isA) k (yf .name) l (yf .own) (yf .free) (A e t) w
+          (ap (withNumber k) er ∙ with-put k R v w (rising-part (inLine line l) t r) h refl)
           (ap isDone (unmoved e f ye yf d ue) ∙ uf)
           ∙ ap (answers (s .most) f w) (ap (besides k) er ∙ part-out (otherThan k) (put w) R (ap not n))
 
@@ -312,7 +323,8 @@ module _ (line : ℕ → ℕ) (s : Setting) where
           let d′ : answering f ≡ answering e → ⊥ = λ x. d (sym x) in
           let w : Version = heard m f (heard m e v) in
           let c : w ≡ heard m e (heard m f v) = heard-comm m small e f v (ye .system) (yf .system) d in
-          both e f t (askedAgain m e v) (askedAgain m f v) (settlingTold w) (heard m e v) (heard m f v) (settled w) (settles w (besides k R))
+          both e f t (askedAgain m e v) (askedAgain m f v) (settlingTold w) (heard m e v) (heard m f v) (settled w)
+          (settles w (besides k R))
           (open-step e (ye .isA) k (ye .name) l (ye .own) (ye .free) t v h ue (still-open e f ye yf d ue uf))
           (open-step f (yf .isA) k (yf .name) l (yf .own) (yf .free) t v h uf (still-open f e yf ye d′ uf ue))
           (second-step e f ye yf d ue uf
@@ -328,7 +340,8 @@ module _ (line : ℕ → ℕ) (s : Setting) where
     by-found : (e f : Event) → Ready e k l → Ready f k l → (answering e ≡ answering f → ⊥) → Both e f t
     by-found e f ye yf d = go (withNumber k R) refl
       where
-        at : (v : Version) → withNumber k R ≡ some v → (a : Bool) → isDone (unheard e v) ≡ a → (b : Bool) → isDone (unheard f v) ≡ b → Both e f t
+        at : (v : Version) → withNumber k R ≡ some v → (a : Bool) → isDone (unheard e v) ≡ a → (b : Bool)
+            → isDone (unheard f v) ≡ b → Both e f t
         at v h false p b q = deaf e f v ye yf d h p
         at v h true p false q = turned (stepping (stepBy line (ruleIn s) (s .rows))) (reads line) (deaf f e v yf ye (λ x. d (sym x)) h q)
         at v h true p true q = both-heard v h e f ye yf d p q
@@ -337,14 +350,16 @@ module _ (line : ℕ → ℕ) (s : Setting) where
         go nothing h = lost e f ye yf h
         go (some v) h = at v h (isDone (unheard e v)) refl (isDone (unheard f v)) refl
 
-    pub replies-commute : (e f : Event) → isAnswer (e .kind) ≡ true → isAnswer (f .kind) ≡ true → e .version ≡ k → f .version ≡ k → line (e .tn .0) ≡ l
+    pub replies-commute : (e f : Event) → isAnswer (e .kind) ≡ true → isAnswer (f .kind) ≡ true → e .version ≡ k → f .version ≡ k
+        → line (e .tn .0) ≡ l
         → line (f .tn .0) ≡ l → (answering e ≡ answering f → ⊥) → Both e f t
     replies-commute e f ae af ne nf oe of d = go (isDone (barred e)) refl (isDone (barred f)) refl
       where
         formed-of : (g : Event) → isDone (barred g) ≡ true → wellFormed g ≡ true
         formed-of g h = by (wellFormed g) refl h
           where
-            by : (a : Bool) → wellFormed g ≡ a → isDone (cond a (cond (absent (s .books) g) Absent Done) Malformed) ≡ true → wellFormed g ≡ true
+            by : (a : Bool) → wellFormed g ≡ a → isDone (cond a (cond (absent (s .books) g) Absent Done) Malformed) ≡ true
+                → wellFormed g ≡ true
             by true p q = p
             by false p q = clash q
 

@@ -19,7 +19,8 @@ use Rattle.model.proofs.Lists.{and-l, and-r, both-true, conj-at, conj-a
 use Rattle.model.proofs.Arrivals.{retries-fit}
 use Rattle.model.proofs.Digits.{used-same, used-other, used-fits}
 use Rattle.model.proofs.SoundRows.{CastRanges, cast-ranges, ranges-cast, Row}
-use Rattle.model.proofs.SoundSets.{every-at, every-all, set-with, set-without, some-member, some-zero, Apart, apart-says, says-apart, apart-turned, apart-with, apart-with-r, apart-without, apart-without-r}
+use Rattle.model.proofs.SoundSets.{every-at, every-all, set-with, set-without, some-member, some-zero, Apart, apart-says}
+use Rattle.model.proofs.SoundSets.{says-apart, apart-turned, apart-with, apart-with-r, apart-without, apart-without-r}
 use Rattle.model.proofs.SoundCasts.{Casting, purposed-created, no-canceller}
 use Rattle.model.specs.declared.Broadcast.{Broadcast}
 use Rattle.model.specs.declared.Event.{Event}
@@ -63,7 +64,8 @@ pub of-parted : (c : Broadcast) → Parted c → setsApart c ≡ true
 unfolding setsApart
 of-parted c r =
     conj-all (pairs c)
-    (with (says-apart (c .confirmed) (c .waiting) (r .cw)) (with (says-apart (c .confirmed) (c .failed) (r .cf)) (with (says-apart (c .waiting) (c .failed) (r .wf)) none)))
+    (with (says-apart (c .confirmed) (c .waiting) (r .cw))
+    (with (says-apart (c .confirmed) (c .failed) (r .cf)) (with (says-apart (c .waiting) (c .failed) (r .wf)) none)))
 
 -- ---- a system leaves the waiting, or is asked again
 module _ (p d : ℕ) (l : 1 ≤ p) (m : p < 64) (h : d < 8) (c : Broadcast) (w : member (c .waiting) p ≡ true) (r : Parted c) where
@@ -76,14 +78,16 @@ module _ (p d : ℕ) (l : 1 ≤ p) (m : p < 64) (h : d < 8) (c : Broadcast) (w :
   parted-moves : (again success : Bool) (n : ℕ) → Parted (moves again success p n c)
   parted-moves true success n = record { cw = r .cw; cf = r .cf; wf = r .wf }
   parted-moves false true n = record {
-    cw = apart-with (c .confirmed) (c .waiting - 2 ^ p) p (apart-without-r (c .confirmed) (c .waiting) p (r .cw) w) out-c (without-same (c .waiting) p w);
+    cw = apart-with (c .confirmed) (c .waiting - 2 ^ p) p (apart-without-r (c .confirmed) (c .waiting) p (r .cw) w) out-c
+        (without-same (c .waiting) p w);
     cf = apart-with (c .confirmed) (c .failed) p (r .cf) out-c out-f;
     wf = apart-without (c .waiting) (c .failed) p (r .wf) w;
   }
   parted-moves false false n = record {
     cw = apart-without-r (c .confirmed) (c .waiting) p (r .cw) w;
     cf = apart-with-r (c .confirmed) (c .failed) p (r .cf) out-c out-f;
-    wf = apart-with-r (c .waiting - 2 ^ p) (c .failed) p (apart-without (c .waiting) (c .failed) p (r .wf) w) (without-same (c .waiting) p w) out-f;
+    wf = apart-with-r (c .waiting - 2 ^ p) (c .failed) p (apart-without (c .waiting) (c .failed) p (r .wf) w)
+        (without-same (c .waiting) p w) out-f;
   }
 
   ranges-moves : (again success : Bool) (n : ℕ) → cond again (n + 1) 0 < 8 → CastRanges c → CastRanges (moves again success p n c)
@@ -107,13 +111,16 @@ module _ (p d : ℕ) (l : 1 ≤ p) (m : p < 64) (h : d < 8) (c : Broadcast) (w :
   abbrev keptFit : Broadcast → ℕ → Bool
   keptFit b q = member (b .waiting) q || eqb (used (b .retries) q) 0
 
-  fits-moves : (again success : Bool) (n : ℕ) → cond again (n + 1) 0 < 8 → retriesFit c ≡ true → retriesFit (moves again success p n c) ≡ true
+  fits-moves : (again success : Bool) (n : ℕ) → cond again (n + 1) 0 < 8 → retriesFit c ≡ true
+      → retriesFit (moves again success p n c) ≡ true
   unfolding retriesFit
   fits-moves a s n k x = every-all (keptFit (moves a s p n c)) 63 (λ q lq mq. go q lq mq (eqb q p) refl)
     where
-      same : (b : Bool) → cond b (n + 1) 0 < 8 → (member (cond b (c .waiting) (c .waiting - 2 ^ p)) p || eqb (used (withUsed (c .retries) p (cond b (n + 1) 0)) p) 0) ≡ true
+      same : (b : Bool) → cond b (n + 1) 0 < 8
+          → (member (cond b (c .waiting) (c .waiting - 2 ^ p)) p || eqb (used (withUsed (c .retries) p (cond b (n + 1) 0)) p) 0) ≡ true
       same true k = rw w
-      same false k = ap (λ (b : Bool). member (c .waiting - 2 ^ p) p || b) (eq-eqb _ 0 (used-same (c .retries) p 0 k)) ∙ or-true (member (c .waiting - 2 ^ p) p)
+      same false k = ap (λ (b : Bool). member (c .waiting - 2 ^ p) p || b) (eq-eqb _ 0 (used-same (c .retries) p 0 k))
+          ∙ or-true (member (c .waiting - 2 ^ p) p)
 
       kept : (q : ℕ) → (q ≡ p → ⊥) → (b : Bool) → member (cond b (c .waiting) (c .waiting - 2 ^ p)) q ≡ member (c .waiting) q
       kept q ne true = refl
@@ -128,7 +135,8 @@ module _ (p d : ℕ) (l : 1 ≤ p) (m : p < 64) (h : d < 8) (c : Broadcast) (w :
           ∙ every-at (keptFit c) 63 q x lq mq
 
 -- ---- the version
-module _ (most : ℕ) (small : most ≤ 7) (e : Event) (v : Version) (row : Row v) (aw : awaited e v ≡ true) (l : 1 ≤ answering e) (m : answering e < 64)
+module _ (most : ℕ) (small : most ≤ 7) (e : Event) (v : Version) (row : Row v) (aw : awaited e v ≡ true) (l : 1 ≤ answering e)
+    (m : answering e < 64)
     (time : isTime (e .time) ≡ true) where
   waited : ltb 0 (v .cast .waiting) ≡ true
   waited = some-member (v .cast .waiting) (answering e) aw
@@ -151,7 +159,8 @@ module _ (most : ℕ) (small : most ≤ 7) (e : Event) (v : Version) (row : Row 
       old = row .ranges .old;
       canceller = row .ranges .canceller;
       cast = ranges-cast (moved most e (v .cast))
-          (ranges-moves (answering e) 0 l m (omega arith) (v .cast) aw parts (again most e (v .cast)) (succeeds e) (used (v .cast .retries) (answering e))
+          (ranges-moves (answering e) 0 l m (omega arith) (v .cast) aw parts (again most e (v .cast)) (succeeds e)
+          (used (v .cast .retries) (answering e))
           (retries-fit most small e (v .cast)) (cast-ranges (v .cast) (row .ranges .cast)));
     };
     differ = row .differ;
@@ -162,8 +171,10 @@ module _ (most : ℕ) (small : most ≤ 7) (e : Event) (v : Version) (row : Row 
     sending = is-sending;
     uncancelled = no-canceller v row (back (λ (s : ℕ). eqb s cancelPending ≡ false) refl);
     apart = of-parted (moved most e (v .cast))
-        (parted-moves (answering e) 0 l m (omega arith) (v .cast) aw parts (again most e (v .cast)) (succeeds e) (used (v .cast .retries) (answering e)));
-    retries = fits-moves (answering e) 0 l m (omega arith) (v .cast) aw parts (again most e (v .cast)) (succeeds e) (used (v .cast .retries) (answering e))
+        (parted-moves (answering e) 0 l m (omega arith) (v .cast) aw parts (again most e (v .cast)) (succeeds e)
+        (used (v .cast .retries) (answering e)));
+    retries = fits-moves (answering e) 0 l m (omega arith) (v .cast) aw parts (again most e (v .cast)) (succeeds e)
+        (used (v .cast .retries) (answering e))
         (retries-fit most small e (v .cast)) (row .retries);
     start = iff-true (ltb 0 (v .cast .start)) (rw is-sending at (row .start));
     aimed = iff-true (ltb 0 (v .cast .purpose)) (at3 (λ (s : ℕ). iff (ltb 0 (v .cast .purpose)) (isPurposed s) ≡ true)
@@ -180,10 +191,13 @@ module _ (most : ℕ) (small : most ≤ 7) (e : Event) (v : Version) (row : Row 
 
       -- a live version that is sending has a confirmed system, and keeps it
       more : (x b : Bool) → implies x (ltb 0 (v .cast .confirmed) || (eqb (v .cast .waiting) 0 && eqb (v .cast .failed) 0)) ≡ true
-          → implies x (ltb 0 (cond b (v .cast .confirmed + 2 ^ answering e) (v .cast .confirmed)) || (eqb (moved most e (v .cast) .waiting) 0 && eqb (moved most e (v .cast) .failed) 0)) ≡ true
+          → implies x (ltb 0 (cond b (v .cast .confirmed + 2 ^ answering e) (v .cast .confirmed))
+          || (eqb (moved most e (v .cast) .waiting) 0 && eqb (moved most e (v .cast) .failed) 0)) ≡ true
       more false b h = refl
-      more true true h = or-l _ _ (lt-ltb 0 (v .cast .confirmed + 2 ^ answering e) (let q : 0 < 2 ^ answering e = pow-pos (answering e) in omega arith))
-      more true false h = or-l _ _ (first (ltb 0 (v .cast .confirmed)) (eqb (v .cast .failed) 0) (rw (some-not (v .cast .waiting) waited) at h))
+      more true true h = or-l _ _
+          (lt-ltb 0 (v .cast .confirmed + 2 ^ answering e) (let q : 0 < 2 ^ answering e = pow-pos (answering e) in omega arith))
+      more true false h = or-l _ _
+          (first (ltb 0 (v .cast .confirmed)) (eqb (v .cast .failed) 0) (rw (some-not (v .cast .waiting) waited) at h))
         where
           some-not : (s : ℕ) → ltb 0 s ≡ true → eqb s 0 ≡ false
           some-not s h = some-zero s ∙ ap not h

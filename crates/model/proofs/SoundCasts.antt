@@ -9,7 +9,9 @@ use borrow.Author.Tests.{eqb-true, not-false}
 use Rattle.model.specs.Versions.{recast, repurposed}
 use Rattle.model.specs.Basics.{among, iff, implies}
 use Rattle.model.specs.Numbers.{isTime}
-use Rattle.model.specs.Sound.{conflict, cancelPending, sending, failure, partialFailure, active, old, isWorked, isSending, isPurposed, activate, sidesDiffer, newWhole, oldWhole, sidesNeeded, causeFits, setsApart, retriesFit, liveConfirmed, sends}
+use Rattle.model.specs.Sound.{conflict, cancelPending, sending, failure, partialFailure, active, old, isWorked, isSending}
+use Rattle.model.specs.Sound.{isPurposed, activate, sidesDiffer, newWhole, oldWhole, sidesNeeded, causeFits, setsApart, retriesFit}
+use Rattle.model.specs.Sound.{liveConfirmed, sends}
 use Rattle.model.specs.Closing.{open?, closeBy, closeTo, closed, retired}
 use Rattle.model.proofs.Lists.{clash, and-r, both-true, or-l, iff-false, back-equal}
 use Rattle.model.proofs.SoundRows.{CastRanges, cast-ranges, ranges-cast, Ranges, Row}
@@ -68,7 +70,8 @@ row-open w c o = record {
   purpose =
       at-sending
       (λ (s : ℕ).
-      (iff (ltb 0 (w .cast .purpose)) (isPurposed s) && implies (among s (failure ∷ partialFailure ∷ [])) (eqb (w .cast .purpose) activate)) ≡ true)
+      (iff (ltb 0 (w .cast .purpose)) (isPurposed s) && implies (among s (failure ∷ partialFailure ∷ [])) (eqb (w .cast .purpose) activate))
+      ≡ true)
       (w .status) (c .sending) (rw (c .aimed));
   live = rw (c .sending) (c .lasting);
   confirmed = c .confirmed;
@@ -85,7 +88,8 @@ pub record AtClose (s : ℕ) (a b act : Bool) : Type 0 where
   pub no2 : eqb s cancelPending ≡ false
   pub few : (p : ℕ) → leb p 3 ≡ true → leb (cond (eqb s old) 0 p) 3 ≡ true
   pub aims : (p : ℕ) → ltb 0 p ≡ true → iff (ltb 0 (cond (eqb s old) 0 p)) (isPurposed s) ≡ true
-  pub activates : (p : ℕ) → eqb p activate ≡ act → implies (among s (failure ∷ partialFailure ∷ [])) (eqb (cond (eqb s old) 0 p) activate) ≡ true
+  pub activates : (p : ℕ) → eqb p activate ≡ act
+      → implies (among s (failure ∷ partialFailure ∷ [])) (eqb (cond (eqb s old) 0 p) activate) ≡ true
   pub live : iff (among s (partialFailure ∷ active ∷ [])) (among s (partialFailure ∷ active ∷ [])) ≡ true
   pub confirms : (p : ℕ) → eqb p activate ≡ act
       → implies (among s (partialFailure ∷ active ∷ []) && eqb (cond (eqb s old) 0 p) activate) (not b || (true && a)) ≡ true
@@ -125,7 +129,8 @@ close-kept s a b act m f k = go (eqb s 4) refl (eqb s 5) refl (eqb s 6) refl
       aims = λ p h. rw (n7, h, u);
       activates = λ p h. rw (n7, h) (subst (λ (j : ℕ). implies (among j (failure ∷ partialFailure ∷ [])) act ≡ true) (eqb-true s n e) f);
       live = rw y (same x);
-      confirms = λ p h. rw (n7, h) (subst (λ (j : ℕ). implies (among j (partialFailure ∷ active ∷ []) && act) (not b || (true && a)) ≡ true) (eqb-true s n e) k);
+      confirms = λ p h. rw (n7, h)
+          (subst (λ (j : ℕ). implies (among j (partialFailure ∷ active ∷ []) && act) (not b || (true && a)) ≡ true) (eqb-true s n e) k);
     }
       where
         same : (z : Bool) → iff z z ≡ true
@@ -236,7 +241,8 @@ live-status x row l n = is (among (x .status) (partialFailure ∷ active ∷ [])
 settled-status : (s : ℕ) → among s (partialFailure ∷ active ∷ []) ≡ true → (isPurposed s ≡ true) × (eqb s cancelPending ≡ false)
 settled-status s h = go (eqb s 5) refl (eqb s 6) refl
   where
-    at : (n : ℕ) → eqb s n ≡ true → (isPurposed n ≡ true) × (eqb n cancelPending ≡ false) → (isPurposed s ≡ true) × (eqb s cancelPending ≡ false)
+    at : (n : ℕ) → eqb s n ≡ true → (isPurposed n ≡ true) × (eqb n cancelPending ≡ false) → (isPurposed s ≡ true)
+        × (eqb s cancelPending ≡ false)
     at n e p = back-equal s n (λ (j : ℕ). (isPurposed j ≡ true) × (eqb j cancelPending ≡ false)) e p
 
     go : (a : Bool) → eqb s 5 ≡ a → (b : Bool) → eqb s 6 ≡ b → (isPurposed s ≡ true) × (eqb s cancelPending ≡ false)
@@ -250,7 +256,8 @@ unfolding sidesNeeded
 purposed-created x row p =
     let s : ℕ = x .status in
     is (isPurposed s) (eqb s old) (x .new .created) p
-    (and-r (implies (eqb s conflict) (x .old .created) && implies (eqb s cancelPending) (x .new .created && x .old .created)) _ (row .needed))
+    (and-r (implies (eqb s conflict) (x .old .created) && implies (eqb s cancelPending) (x .new .created && x .old .created))
+    _ (row .needed))
   where
     is : (a b c : Bool) → a ≡ true → implies (a || b) c ≡ true → c ≡ true
     is true b c e h = h
@@ -275,7 +282,14 @@ row-retired stamp x time row l n =
         old = row .ranges .old;
         canceller = row .ranges .canceller;
         cast = ranges-cast (repurposed (x .cast) 0 (x .cast .start))
-            (record { purpose = refl; start = r .start; confirmed = r .confirmed; waiting = r .waiting; failed = r .failed; retries = r .retries });
+            (record {
+              purpose = refl;
+              start = r .start;
+              confirmed = r .confirmed;
+              waiting = r .waiting;
+              failed = r .failed;
+              retries = r .retries;
+            });
       };
       differ = row .differ;
       new = row .new;

@@ -11,7 +11,8 @@ use Rattle.systems.specs.Set.{member}
 use Rattle.model.specs.Basics.{implies, every}
 use Rattle.model.specs.Numbers.{tenDigits, isNumber, isTime, isProvider}
 use Rattle.model.specs.Retries.{octal, used}
-use Rattle.model.specs.Sound.{pending, conflict, cancelPending, no, newWhole, oldWhole, causeFits, sidesNeeded, setsApart, apart, retriesFit, retriesInRange, castInRange}
+use Rattle.model.specs.Sound.{pending, conflict, cancelPending, no, newWhole, oldWhole, causeFits, sidesNeeded, setsApart, apart}
+use Rattle.model.specs.Sound.{retriesFit, retriesInRange, castInRange}
 use Rattle.model.specs.Record.{isCreate, named, twoSides, wellFormed}
 use Rattle.model.specs.Creates.{newFrom, oldFrom, newAbsent, oldAbsent, statusBy, noBroadcast, freshVersion}
 use Rattle.model.specs.Given.{newest}
@@ -40,11 +41,24 @@ none-cast = refl
 
 abbrev blank : Id → ℕ → ℕ → NewSide → OldSide → Version
 blank id status stamp new old =
-    record { id = id; status = status; stamp = stamp; live = false; new = new; old = old; canceller = 0; window = false; cast = noBroadcast }
+    record {
+      id = id;
+      status = status;
+      stamp = stamp;
+      live = false;
+      new = new;
+      old = old;
+      canceller = 0;
+      window =
+          false;
+      cast = noBroadcast;
+    }
 
 blank-row : (id : Id) (s t : ℕ) (n : NewSide) (o : OldSide) → tenDigits (id .tn .0) ≡ true → isNumber (id .number) ≡ true → isTime t ≡ true
-    → isProvider (n .provider) ≡ true → isProvider (o .provider) ≡ true → eqb (n .provider) (o .provider) ≡ false → newWhole n ≡ true → oldWhole o ≡ true
-    → causeFits o ≡ true → (n .created || o .created) ≡ true → Calm s → eqb s cancelPending ≡ false → implies (eqb s conflict) (o .created) ≡ true → Row (blank id s t n o)
+    → isProvider (n .provider) ≡ true → isProvider (o .provider) ≡ true → eqb (n .provider) (o .provider) ≡ false
+    → newWhole n ≡ true → oldWhole o ≡ true
+    → causeFits o ≡ true → (n .created || o .created) ≡ true → Calm s → eqb s cancelPending ≡ false
+    → implies (eqb s conflict) (o .created) ≡ true → Row (blank id s t n o)
 unfolding sidesNeeded
 blank-row id s t n o tn number time pn po d wn wo c one q no2 clashes = record {
   ranges = record { tn = tn; number = number; status = q .small; stamp = time; new = pn; old = po; canceller = refl; cast = none-cast };
@@ -86,7 +100,8 @@ module _ (e : Event) (formed : wellFormed e ≡ true) (r : List Version) (room :
   f = fields e formed
 
   -- the two providers of a create
-  sides : twoSides (e .sender) (e .other) ≡ true → (isProvider (e .sender) ≡ true) × (isProvider (e .other) ≡ true) × (eqb (e .sender) (e .other) ≡ false)
+  sides : twoSides (e .sender) (e .other) ≡ true → (isProvider (e .sender) ≡ true) × (isProvider (e .other) ≡ true)
+      × (eqb (e .sender) (e .other) ≡ false)
   sides h =
       let of = conj-at (named (e .sender) ∷ named (e .other) ∷ not (eqb (e .sender) (e .other)) ∷ []) h in
       (provider-is (e .sender) (of 0) (f .sender), provider-is (e .other) (of 1) (f .other), not-true (eqb (e .sender) (e .other)) (of 2))
@@ -102,7 +117,8 @@ module _ (e : Event) (formed : wellFormed e ≡ true) (r : List Version) (room :
       id = record { tn = e .tn; number = suc (newest r) }
 
       number : isNumber (suc (newest r)) ≡ true
-      number = both-true (leb 1 (suc (newest r))) (leb (suc (newest r)) 65535) (le-leb 1 (suc (newest r)) (omega arith)) (le-leb (suc (newest r)) 65535 (omega arith))
+      number = both-true (leb 1 (suc (newest r))) (leb (suc (newest r)) 65535) (le-leb 1 (suc (newest r)) (omega arith))
+          (le-leb (suc (newest r)) 65535 (omega arith))
 
       time : isTime (e .time) ≡ true
       time = time-is (e .time) (f .timed) (f .time)
@@ -115,12 +131,15 @@ module _ (e : Event) (formed : wellFormed e ≡ true) (r : List Version) (room :
       go true p b q =
           let d = sides (new-fields e formed p 0) in
           blank-row id pending (e .time) (newFrom e (e .sender)) (oldAbsent (e .other)) (f .number) number time (d .0) (d .1) (d .2)
-          (new-from e (e .sender) f (new-fields e formed p 5) (new-fields e formed p 3)) (no-side (e .other)) (no-cause (e .other)) refl calm0 refl refl
+          (new-from e (e .sender) f (new-fields e formed p 5) (new-fields e formed p 3)) (no-side (e .other)) (no-cause (e .other))
+          refl calm0 refl refl
       go false p true q =
           let d = sides (old-fields e formed q 0) in
           let w = old-from e (oldFrom e (e .sender)) refl refl refl refl f (old-fields e formed q 4) (old-fields e formed q 1) in
-          blank-row id (cond (eqb (e .mark) no) conflict pending) (e .time) (newAbsent (e .other)) (oldFrom e (e .sender)) (f .number) number time (d .1) (d .0)
-          (turned (e .sender) (e .other) (d .2)) (no-new (e .other)) (w .0) (w .1) refl (calm-cond (eqb (e .mark) no) calm1 calm0) (plain (eqb (e .mark) no)) (always (eqb (cond (eqb (e .mark) no) conflict pending) conflict))
+          blank-row id (cond (eqb (e .mark) no) conflict pending) (e .time) (newAbsent (e .other)) (oldFrom e (e .sender)) (f .number)
+          number time (d .1) (d .0)
+          (turned (e .sender) (e .other) (d .2)) (no-new (e .other)) (w .0) (w .1) refl (calm-cond (eqb (e .mark) no) calm1 calm0)
+          (plain (eqb (e .mark) no)) (always (eqb (cond (eqb (e .mark) no) conflict pending) conflict))
         where
           plain : (x : Bool) → eqb (cond x conflict pending) cancelPending ≡ false
           plain true = refl

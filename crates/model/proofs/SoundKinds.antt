@@ -33,9 +33,11 @@ use Rattle.model.proofs.SoundSets.{set-mask}
 use Rattle.model.proofs.SoundCasts.{Casting}
 use Rattle.model.proofs.SoundAnswers.{time-is, is-sending, casting-heard}
 use Rattle.model.proofs.SoundOpened.{Allowed, purpose-lasts, casting-opened, status-of}
-use Rattle.model.proofs.SoundSides.{row-concurred, row-new-modified, row-old-modified, row-cancelled, row-acknowledged, row-resolved, window-status, row-window-turned, row-window-marked, open-status}
+use Rattle.model.proofs.SoundSides.{row-concurred, row-new-modified, row-old-modified, row-cancelled, row-acknowledged}
+use Rattle.model.proofs.SoundSides.{row-resolved, window-status, row-window-turned, row-window-marked, open-status}
 use Rattle.model.proofs.SoundFresh.{row-fresh}
-use Rattle.model.proofs.SoundLines.{Line, one, all-find, found-self, count-found, count-put, count-strike, count-add, first-none, any-none, line-put}
+use Rattle.model.proofs.SoundLines.{Line, one, all-find, found-self, count-found, count-put, count-strike, count-add, first-none}
+use Rattle.model.proofs.SoundLines.{any-none, line-put}
 use Rattle.model.proofs.SoundLaws.{Keeps, Ground, keeps-settled}
 use Rattle.model.specs.declared.Id.{Id}
 use Rattle.model.specs.declared.Tn.{Tn}
@@ -174,10 +176,12 @@ module _ (lineOf : ℕ → ℕ) (e : Event) (formed : wellFormed e ≡ true) (r 
     }
 
     -- ---- a broadcast
-    keeps-broadcasts : (bk : Books) → isBroadcast (e .kind) ≡ true → any sends (others K r) ≡ false → Keeps r (broadcasts bk e v (others K r))
+    keeps-broadcasts : (bk : Books) → isBroadcast (e .kind) ≡ true → any sends (others K r) ≡ false
+        → Keeps r (broadcasts bk e v (others K r))
     unfolding broadcasts
     keeps-broadcasts bk k free =
-        keeps-settled K r v (g .rising) (g .rows) (g .line) h alone W same _ (casting-opened S set e formed v row k al) line-opened (purpose-lasts S set e formed v row k al)
+        keeps-settled K r v (g .rising) (g .rows) (g .line) h alone W same _ (casting-opened S set e formed v row k al) line-opened
+        (purpose-lasts S set e formed v row k al)
       where
         S : ℕ
         S = selectedFor bk (v .id .tn)
@@ -204,7 +208,13 @@ module _ (lineOf : ℕ → ℕ) (e : Event) (formed : wellFormed e ≡ true) (r 
             ap one (opened-stays S e v .live),
           );
           sends = omega (arith, alone, count-put sends K r v W (g .rising) h same, one-le (sends W));
-          works = omega (arith, g .line .works, count-put worked K r v W (g .rising) h same, count-found worked K r v (g .rising) h, ap one (opened-worked S e v));
+          works = omega (
+            arith,
+            g .line .works,
+            count-put worked K r v W (g .rising) h same,
+            count-found worked K r v (g .rising) h,
+            ap one (opened-worked S e v),
+          );
         }
 
     -- ---- all of them
@@ -222,7 +232,8 @@ module _ (lineOf : ℕ → ℕ) (e : Event) (formed : wellFormed e ≡ true) (r 
     })
 
   -- ---- creates
-  pub keeps-creates : isCreate (e .kind) ≡ true → (isNone (workedOne r) ≡ true → newest r < 65535) → ((v : Version) → workedOne r ≡ some v → fits e v ≡ true) → Keeps r (creates e r)
+  pub keeps-creates : isCreate (e .kind) ≡ true → (isNone (workedOne r) ≡ true → newest r < 65535)
+      → ((v : Version) → workedOne r ≡ some v → fits e v ≡ true) → Keeps r (creates e r)
   keeps-creates k room fit =
       by-worked (Keeps r) e r (λ q. record { rows = with (row-fresh e formed r (room (ap isNone q)) k) none; line = line-fresh q }) concurs
     where
@@ -235,7 +246,8 @@ module _ (lineOf : ℕ → ℕ) (e : Event) (formed : wellFormed e ≡ true) (r 
 
       concurs : (v : Version) → workedOne r ≡ some v → Keeps r (createOn e r (some v))
       concurs v q =
-          let at : find (v .id) r ≡ some v = all-first {P = λ (x : Version). find (x .id) r ≡ some x} worked v (found-self r (g .rising)) q in
+          let at : find (v .id) r ≡ some v =
+          all-first {P = λ (x : Version). find (x .id) r ≡ some x} worked v (found-self r (g .rising)) q in
           let works : worked v ≡ true = first-true worked r v q in
           let row : Row v = all-find (v .id) v (g .rows) at in
           calm-put (v .id) r v (concurred e v) _ (g .rising) (g .line) at (concurred-stays e v) works (concurred-calm e v works)

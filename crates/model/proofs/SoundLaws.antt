@@ -99,7 +99,14 @@ module _ (line : ℕ → ℕ) (rule : Rule) (loc : Local line rule) (cap : ℕ)
       cs = stepBy line rule cap e t .does
 
       k : Keeps r (stepBy line rule cap e t)
-      k = keeps (ltb (length t) cap) e r (record { own = rows-rows line L t; rising = rising-part _ t (s .rising); rows = all-keep _ (s .rows); line = s .lines L; numbers = s .numbers L })
+      k = keeps (ltb (length t) cap) e r
+          (record {
+            own = rows-rows line L t;
+            rising = rising-part _ t (s .rising);
+            rows = all-keep _ (s .rows);
+            line = s .lines L;
+            numbers = s .numbers L;
+          })
 
       -- what holds of the event's rows after it, and of another line's before it, holds of each line's after it
       go : (P : List Version → Type 0) (l : ℕ) → P (changes cs r) → P (rowsOf line l t) → (b : Bool) → eqb (line (e .tn .0)) l ≡ b
@@ -121,14 +128,16 @@ module _ (k : Id) (r : List Version) (v : Version) (s : Rising r) (rows : All Ro
   retired-rows : All (λ (x : Version). Row (retired (w .stamp) x)) (keep live (others k r))
   retired-rows =
       all-both {P = λ (x : Version). Row x × (sends x ≡ false)} (λ x a l. row-retired (w .stamp) x (c .ranges .stamp) (a .0) l (a .1))
-      (all-keep live (all-both (λ x a b. (a, b)) (all-keep (λ (x : Version). notNamed k (x .id)) rows) (none-counted sends (others k r) alone)))
+      (all-keep live (all-both (λ x a b. (a, b)) (all-keep (λ (x : Version). notNamed k (x .id)) rows)
+      (none-counted sends (others k r) alone)))
       (passed live (others k r))
 
   lines-closed : (eqb (w .cast .purpose) activate ≡ false → v .live ≡ true) → (b : Bool) → takesOver w ≡ b
       → Line (changes (cond b (map (retiring w) (keep live (others k r))) []) (change (put (closed w)) r))
   unfolding closed
   lines-closed last true q =
-      line-retire k r v s line h (closed w) n (at-closed (w .cast) .not-sending) (at-closed (w .cast) .not-worked) (w .stamp) (keep live (others k r)) refl
+      line-retire k r v s line h (closed w) n (at-closed (w .cast) .not-sending) (at-closed (w .cast) .not-worked) (w .stamp)
+      (keep live (others k r)) refl
   lines-closed last false q =
       line-put k r v s line h (closed w) n (taken (eqb (w .cast .purpose) activate) (closed w .live) q last)
       (rw (at-closed (w .cast) .not-sending) (omega arith)) (rw (at-closed (w .cast) .not-worked) (omega arith))

@@ -15,7 +15,8 @@ use Rattle.model.specs.Sound.{count, numbered, live, sends, worked}
 use Rattle.model.specs.Closing.{retired}
 use Rattle.model.proofs.Lists.{clash, keep-none, all-keep, all-both, all-first, head-of, passed}
 use Rattle.model.proofs.Order.{order-self, order-eq, order-gt, order-lt}
-use Rattle.model.proofs.TableLaws.{Under, Rising, fresh, adds, notNamed, others, under-tail, above, find-put, find-other, part-out, rising-change}
+use Rattle.model.proofs.TableLaws.{Under, Rising, fresh, adds, notNamed, others, under-tail, above, find-put, find-other, part-out}
+use Rattle.model.proofs.TableLaws.{rising-change}
 use Rattle.model.proofs.Numbered.{with-above}
 use Rattle.model.specs.Given.{withNumber, besides, newest}
 use Rattle.model.specs.declared.Id.{Id}
@@ -53,7 +54,8 @@ count-cons p x l = go (p x) refl
     go true e = rw e (omega arith)
     go false e = rw e (omega arith)
 
-pub count-found : (p : Version → Bool) (k : Id) (r : List Version) (v : Version) → Rising r → find k r ≡ some v → count p r ≡ count p (others k r) + one (p v)
+pub count-found : (p : Version → Bool) (k : Id) (r : List Version) (v : Version) → Rising r → find k r ≡ some v
+    → count p r ≡ count p (others k r) + one (p v)
 count-found p k [] v s q = absurd (let z : _≡_ {A = ℕ} 0 1 = cc in omega arith)
 count-found p k (x ∷ xs) v s q = go (order k (x .id)) refl (count-found p k xs v (s .1))
   where
@@ -63,10 +65,12 @@ count-found p k (x ∷ xs) v s q = go (order k (x .id)) refl (count-found p k xs
     go Ordering·eq e ih =
         let n : k ≡ (x .id) = order-eq k (x .id) e in
         let y : x ≡ v = cc (rw e at q) in
-        let drop : others k (x ∷ xs) ≡ xs = rw (ap (order (x .id)) n ∙ order-self (x .id)) (others-all k xs (subst (λ (j : Id). Under j xs) (sym n) (s .0)) (s .1)) in
+        let drop : others k (x ∷ xs) ≡ xs =
+        rw (ap (order (x .id)) n ∙ order-self (x .id)) (others-all k xs (subst (λ (j : Id). Under j xs) (sym n) (s .0)) (s .1)) in
         count-cons p x xs ∙ ap₂ (λ (l : List Version) (w : Version). count p l + one (p w)) (sym drop) y
     go Ordering·gt e ih =
-        rw (order-gt k (x .id) e) (count-cons p x xs ∙ ap (λ (n : ℕ). n + one (p x)) (ih (rw e at q)) ∙ omega (arith, count-cons p x (others k xs)))
+        rw (order-gt k (x .id) e) (count-cons p x xs ∙ ap (λ (n : ℕ). n + one (p x)) (ih (rw e at q))
+        ∙ omega (arith, count-cons p x (others k xs)))
 
 -- a put over the row that is found
 pub count-put : (p : Version → Bool) (k : Id) (r : List Version) (v w : Version) → Rising r → find k r ≡ some v → (w .id) ≡ k
@@ -80,7 +84,8 @@ pub count-strike : (p : Version → Bool) (k : Id) (r : List Version) → count 
 count-strike p k [] = omega arith
 count-strike p k (x ∷ xs) = go (order k (x .id)) refl (count-strike p k xs)
   where
-    go : (o : Ordering) → order k (x .id) ≡ o → count p (change (strike k) xs) ≤ count p xs → count p (change (strike k) (x ∷ xs)) ≤ count p (x ∷ xs)
+    go : (o : Ordering) → order k (x .id) ≡ o → count p (change (strike k) xs) ≤ count p xs
+        → count p (change (strike k) (x ∷ xs)) ≤ count p (x ∷ xs)
     go Ordering·lt e ih = rw e (omega arith)
     go Ordering·eq e ih = rw e (omega (arith, count-cons p x xs))
     go Ordering·gt e ih = rw e (omega (arith, count-cons p x xs, count-cons p x (change (strike k) xs)))
@@ -89,7 +94,8 @@ pub count-add : (p : Version → Bool) (w : Version) (r : List Version) → coun
 count-add p w [] = omega (arith, count-cons p w [])
 count-add p w (x ∷ xs) = go (order (w .id) (x .id)) refl (count-add p w xs)
   where
-    go : (o : Ordering) → order (w .id) (x .id) ≡ o → count p (change (add w) xs) ≤ count p xs + one (p w) → count p (change (add w) (x ∷ xs)) ≤ count p (x ∷ xs) + one (p w)
+    go : (o : Ordering) → order (w .id) (x .id) ≡ o → count p (change (add w) xs) ≤ count p xs + one (p w)
+        → count p (change (add w) (x ∷ xs)) ≤ count p (x ∷ xs) + one (p w)
     go Ordering·lt e ih = rw e (omega (arith, count-cons p w (x ∷ xs)))
     go Ordering·eq e ih = rw e (omega (arith, count-cons p w xs, count-cons p x xs))
     go Ordering·gt e ih = rw e (omega (arith, count-cons p x xs, count-cons p x (change (add w) xs)))
@@ -128,7 +134,8 @@ found-self (x ∷ xs) s =
 
 module _ (k : Id) (r : List Version) (v : Version) (s : Rising r) (line : Line r) (h : find k r ≡ some v) where
   -- a put that is no more live, sending or worked than the row was
-  pub line-put : (w : Version) → (w .id) ≡ k → one (w .live) ≤ one (v .live) → one (sends w) ≤ one (sends v) → one (worked w) ≤ one (worked v) → Line (change (put w) r)
+  pub line-put : (w : Version) → (w .id) ≡ k → one (w .live) ≤ one (v .live) → one (sends w) ≤ one (sends v)
+      → one (worked w) ≤ one (worked v) → Line (change (put w) r)
   line-put w n a b c = record {
     lives = omega (arith, line .lives, count-put live k r v w s h n, count-found live k r v s h);
     sends = omega (arith, line .sends, count-put sends k r v w s h n, count-found sends k r v s h);
@@ -147,7 +154,8 @@ module _ (k : Id) (r : List Version) (v : Version) (s : Rising r) (line : Line r
     one-le true = omega arith
     one-le false = omega arith
 
-    retire-one : (stamp : ℕ) (x : Version) → find (x .id) r ≡ some x → notNamed k (x .id) ≡ true → x .live ≡ true → count live (others k r) ≡ 1
+    retire-one : (stamp : ℕ) (x : Version) → find (x .id) r ≡ some x → notNamed k (x .id) ≡ true → x .live ≡ true
+        → count live (others k r) ≡ 1
         → Line (change (put (retired stamp x)) (change (put w) r))
     unfolding retired
     retire-one stamp x fx nn lx c = record {
@@ -168,15 +176,18 @@ module _ (k : Id) (r : List Version) (v : Version) (s : Rising r) (line : Line r
         now : (p : Version → Bool) → count p (change (put (retired stamp x)) r1) ≡ count p (others (x .id) r1) + one (p (retired stamp x))
         now p = count-put p (x .id) r1 x (retired stamp x) (rising-change (put w) r s) f1 refl
 
-    pub line-retire : (stamp : ℕ) (l : List Version) → keep live (others k r) ≡ l → Line (changes (map (λ (x : Version). put (retired stamp x)) l) (change (put w) r))
+    pub line-retire : (stamp : ℕ) (l : List Version) → keep live (others k r) ≡ l
+        → Line (changes (map (λ (x : Version). put (retired stamp x)) l) (change (put w) r))
     line-retire stamp [] q = record {
       lives = omega (arith, count-put live k r v w s h n, ap length q, one-le (w .live));
       sends = one-sends;
       works = one-works;
     }
     line-retire stamp (x ∷ []) q = retire-one stamp x
-        (head-of (subst (All (λ (y : Version). find (y .id) r ≡ some y)) q (all-keep live (all-keep (λ (y : Version). notNamed k (y .id)) (found-self r s)))))
-        (head-of (subst (All (λ (y : Version). notNamed k (y .id) ≡ true)) q (all-keep live (passed (λ (y : Version). notNamed k (y .id)) r))))
+        (head-of (subst (All (λ (y : Version). find (y .id) r ≡ some y)) q
+        (all-keep live (all-keep (λ (y : Version). notNamed k (y .id)) (found-self r s)))))
+        (head-of (subst (All (λ (y : Version). notNamed k (y .id) ≡ true)) q
+        (all-keep live (passed (λ (y : Version). notNamed k (y .id)) r))))
         (head-of (subst (All (λ (y : Version). y .live ≡ true)) q (passed live (others k r)))) (ap length q)
     line-retire stamp (x ∷ y ∷ ys) q = absurd (omega (arith, line .lives, count-found live k r v s h, ap length q))
 
@@ -226,10 +237,12 @@ distinct-rising n r s a = record { once = λ m. go m r s a }
     go m [] s none = omega arith
     go m (x ∷ xs) s (with h hs) = at (numbered m x) refl (go m xs (s .1) hs)
       where
-        differs : eqb (x .id .number) m ≡ true → (y : Version) → order (x .id) (y .id) ≡ Ordering·lt → y .id .tn .0 ≡ n → numbered m y ≡ false
+        differs : eqb (x .id .number) m ≡ true → (y : Version) → order (x .id) (y .id) ≡ Ordering·lt → y .id .tn .0 ≡ n
+            → numbered m y ≡ false
         differs e y up q =
             ne-eqb (y .id .number) m
-            (λ z. absurd (let j : x .id ≡ y .id = λ i. record { tn = record { 0 = (h ∙ sym q) i }; number = (eqb-true (x .id .number) m e ∙ sym z) i } in
+            (λ z. absurd (let j : x .id ≡ y .id = λ i. record
+            { tn = record { 0 = (h ∙ sym q) i }; number = (eqb-true (x .id .number) m e ∙ sym z) i } in
             let w : Ordering·eq ≡ Ordering·lt = sym (order-self (x .id)) ∙ ap (order (x .id)) j ∙ up in
             let v : _≡_ {A = ℕ} 0 1 = cc in omega arith))
 
@@ -239,7 +252,8 @@ distinct-rising n r s a = record { once = λ m. go m r s a }
               arith,
               count-cons (numbered m) x xs,
               ap one e,
-              ap length (keep-none (numbered m) (λ (y : Version). numbered m y ≡ false) xs (all-both (differs e) (above (x .id) xs (s .0) (s .1)) hs) (λ y q. q)),
+              ap length (keep-none (numbered m) (λ (y : Version). numbered m y ≡ false) xs
+                  (all-both (differs e) (above (x .id) xs (s .0) (s .1)) hs) (λ y q. q)),
             )
         at false e ih = omega (arith, count-cons (numbered m) x xs, ap one e)
 
@@ -256,7 +270,8 @@ count-kept p (put w) (x ∷ xs) q = go (order (w .id) (x .id)) refl (count-kept 
     P : Version → Bool
     P v = p (v .id)
 
-    go : (o : Ordering) → order (w .id) (x .id) ≡ o → count P (change (put w) xs) ≤ count P xs → count P (change (put w) (x ∷ xs)) ≤ count P (x ∷ xs)
+    go : (o : Ordering) → order (w .id) (x .id) ≡ o → count P (change (put w) xs) ≤ count P xs
+        → count P (change (put w) (x ∷ xs)) ≤ count P (x ∷ xs)
     go Ordering·lt e ih = rw e (omega arith)
     go Ordering·eq e ih =
         rw e (omega (arith, count-cons P w xs, count-cons P x xs, ap (λ (k : Id). one (p k)) (order-eq (w .id) (x .id) e)))

@@ -11,7 +11,8 @@ use Rattle.systems.specs.Set.{member, meet}
 use Rattle.model.specs.Basics.{among, iff, implies}
 use Rattle.model.specs.Numbers.{tenDigits, isTime, isProvider, isSet}
 use Rattle.model.specs.Retries.{used, noRetries}
-use Rattle.model.specs.Sound.{pending, cancelPending, failure, partialFailure, active, isPurposed, isSending, activate, modify, disconnect, newWhole, retriesFit, retriesInRange}
+use Rattle.model.specs.Sound.{pending, cancelPending, failure, partialFailure, active, isPurposed, isSending, activate, modify}
+use Rattle.model.specs.Sound.{disconnect, newWhole, retriesFit, retriesInRange}
 use Rattle.model.specs.Record.{isBroadcast, named, unused, wellFormed}
 use Rattle.model.specs.Standing.{standingOf, standsFor, statusFor}
 use Rattle.model.specs.Broadcast.{resends, purposeFor, askedFor, newFor, opened}
@@ -29,7 +30,8 @@ use Rattle.model.specs.declared.Version.{Version}
 -- who has the standing of a side has created
 pub stands-new : (e : Event) (v : Version) → standingOf e v ≡ 0 → v .new .created ≡ true
 unfolding standingOf
-stands-new e v h = go (eqb (e .sender) 0) (v .new .created) (eqb (e .sender) (v .new .provider)) (v .old .created && eqb (e .sender) (v .old .provider)) h
+stands-new e v h = go (eqb (e .sender) 0) (v .new .created) (eqb (e .sender) (v .new .provider))
+    (v .old .created && eqb (e .sender) (v .old .provider)) h
   where
     go : (a b c d : Bool) → _≡_ {A = ℕ} (cond a 2 (cond (b && c) 0 (cond d 1 3))) 0 → b ≡ true
     go a true c d q = refl
@@ -39,7 +41,8 @@ stands-new e v h = go (eqb (e .sender) 0) (v .new .created) (eqb (e .sender) (v 
 
 pub stands-old : (e : Event) (v : Version) → standingOf e v ≡ 1 → v .old .created ≡ true
 unfolding standingOf
-stands-old e v h = go (eqb (e .sender) 0) (v .new .created && eqb (e .sender) (v .new .provider)) (v .old .created) (eqb (e .sender) (v .old .provider)) h
+stands-old e v h = go (eqb (e .sender) 0) (v .new .created && eqb (e .sender) (v .new .provider)) (v .old .created)
+    (eqb (e .sender) (v .old .provider)) h
   where
     go : (a b c d : Bool) → _≡_ {A = ℕ} (cond a 2 (cond b 0 (cond (c && d) 1 3))) 1 → c ≡ true
     go a b true d q = refl
@@ -67,11 +70,15 @@ module _ (selected : ℕ) (set : isSet selected ≡ true) (e : Event) (formed : 
     (k : isBroadcast (e .kind) ≡ true) (al : Allowed e v) where
   live-active : eqb (v .status) active ≡ true → v .live ≡ true
   live-active q =
-      iff-true (v .live) (at-equal (v .status) 6 (λ (s : ℕ). cond (isSending s) (v .live || eqb (v .cast .purpose) activate) (iff (v .live) (among s (partialFailure ∷ active ∷ []))) ≡ true) q (row .live))
+      iff-true (v .live) (at-equal (v .status) 6
+      (λ (s : ℕ). cond (isSending s) (v .live || eqb (v .cast .purpose) activate)
+      (iff (v .live) (among s (partialFailure ∷ active ∷ []))) ≡ true) q (row .live))
 
   not-live : eqb (v .status) pending ≡ true → v .live ≡ false
   not-live q =
-      iff-false (v .live) (at-equal (v .status) 0 (λ (s : ℕ). cond (isSending s) (v .live || eqb (v .cast .purpose) activate) (iff (v .live) (among s (partialFailure ∷ active ∷ []))) ≡ true) q (row .live))
+      iff-false (v .live) (at-equal (v .status) 0
+      (λ (s : ℕ). cond (isSending s) (v .live || eqb (v .cast .purpose) activate)
+      (iff (v .live) (among s (partialFailure ∷ active ∷ []))) ≡ true) q (row .live))
 
   -- what the purpose, the confirmed and the asked must be
   record Aim (purpose confirmed waiting : ℕ) : Type 0 where
@@ -130,8 +137,14 @@ module _ (selected : ℕ) (set : isSet selected ≡ true) (e : Event) (formed : 
           at-equal (v .status) n (λ (s : ℕ). implies (among s (failure ∷ partialFailure ∷ [])) (eqb (v .cast .purpose) activate) ≡ true) q
           (and-r (iff (ltb 0 (v .cast .purpose)) (isPurposed (v .status))) _ (row .purpose))
 
-      by : (n : ℕ) → eqb (v .status) n ≡ true → isPurposed n ≡ true → eqb n cancelPending ≡ false → (v .live || eqb (v .cast .purpose) activate) ≡ true → Resent
-      by n q p c l = record { purposed = back-equal (v .status) n (λ (s : ℕ). isPurposed s ≡ true) q p; lasting = l; uncancelled = back-equal (v .status) n (λ (s : ℕ). eqb s cancelPending ≡ false) q c }
+      by : (n : ℕ) → eqb (v .status) n ≡ true → isPurposed n ≡ true → eqb n cancelPending ≡ false
+          → (v .live || eqb (v .cast .purpose) activate) ≡ true → Resent
+      by n q p c l = record {
+        purposed = back-equal (v .status) n (λ (s : ℕ). isPurposed s ≡ true) q p;
+        lasting = l;
+        uncancelled =
+            back-equal (v .status) n (λ (s : ℕ). eqb s cancelPending ≡ false) q c;
+      }
 
       go : (a : Bool) → eqb (v .status) 4 ≡ a → (b : Bool) → eqb (v .status) 5 ≡ b → (c : Bool) → eqb (v .status) 6 ≡ c → Resent
       go true p b q c r = by 4 p refl refl (ap (λ (x : Bool). v .live || x) (aims 4 p) ∙ or-true (v .live))
@@ -143,12 +156,14 @@ module _ (selected : ℕ) (set : isSet selected ≡ true) (e : Event) (formed : 
       → Aim (v .cast .purpose) (v .cast .confirmed) (meet (v .cast .failed) selected)
   aim-resend h = record {
     small = r .purpose;
-    some = iff-true (ltb 0 (v .cast .purpose)) (rw (s .purposed) at (and-l (iff (ltb 0 (v .cast .purpose)) (isPurposed (v .status))) _ (row .purpose)));
+    some = iff-true (ltb 0 (v .cast .purpose))
+        (rw (s .purposed) at (and-l (iff (ltb 0 (v .cast .purpose)) (isPurposed (v .status))) _ (row .purpose)));
     lasting = s .lasting;
     conf = r .confirmed;
     wait = both-set;
     cw = record { out = λ p l m q. go p l m q (member (meet (v .cast .failed) selected) p) refl };
-    confirms = more (v .live && eqb (v .cast .purpose) activate) (ltb 0 (v .cast .confirmed)) (eqb (v .cast .failed) 0) refl (row .confirmed);
+    confirms = more (v .live && eqb (v .cast .purpose) activate) (ltb 0 (v .cast .confirmed)) (eqb (v .cast .failed) 0)
+        refl (row .confirmed);
     created = purposed-created v row (s .purposed);
     uncancelled = s .uncancelled;
   }
@@ -181,8 +196,10 @@ module _ (selected : ℕ) (set : isSet selected ≡ true) (e : Event) (formed : 
   unfolding askedFor
   aim = go (eqb (e .kind) 14) refl (eqb (e .kind) 5) refl (eqb (e .kind) 9) refl (eqb (e .kind) 10) refl
     where
-      go : (a : Bool) → eqb (e .kind) 14 ≡ a → (b : Bool) → eqb (e .kind) 5 ≡ b → (c : Bool) → eqb (e .kind) 9 ≡ c → (d : Bool) → eqb (e .kind) 10 ≡ d
-          → Aim (cond a (v .cast .purpose) (cond b activate (cond c modify disconnect))) (cond a (v .cast .confirmed) 0) (cond a (meet (v .cast .failed) selected) selected)
+      go : (a : Bool) → eqb (e .kind) 14 ≡ a → (b : Bool) → eqb (e .kind) 5 ≡ b → (c : Bool) → eqb (e .kind) 9 ≡ c
+          → (d : Bool) → eqb (e .kind) 10 ≡ d
+          → Aim (cond a (v .cast .purpose) (cond b activate (cond c modify disconnect))) (cond a (v .cast .confirmed) 0)
+          (cond a (meet (v .cast .failed) selected) selected)
       go true p b q c x d y = aim-resend (status-of e v al 14 p)
       go false p true q c x d y = aim-activate (status-of e v al 5 q) (stands-new e v (eqb-true (standingOf e v) 0 (stands-of e v al 5 q)))
       go false p false q true x d y = aim-other modify refl refl refl (status-of e v al 9 x)
@@ -196,14 +213,16 @@ module _ (selected : ℕ) (set : isSet selected ≡ true) (e : Event) (formed : 
     where
       lrn : eqb (e .kind) 9 ≡ true → tenDigits (e .lrn .0) ≡ true
       lrn q =
-          conj-at (unused (e .other) ∷ unused (e .mark) ∷ unused (e .cause) ∷ tenDigits (e .lrn .0) ∷ named (e .version) ∷ unused (e .due) ∷ [])
+          conj-at (unused (e .other) ∷ unused (e .mark) ∷ unused (e .cause) ∷ tenDigits (e .lrn .0) ∷ named (e .version)
+          ∷ unused (e .due) ∷ [])
           (at-kind e formed 9 (eqb-true (e .kind) 9 q)) 3
 
       due : isTime (v .new .due) ≡ true
       due = and-l (isTime (v .new .due)) (tenDigits (v .new .lrn .0)) (rw (aim .created) at (row .new))
 
       go : (b : Bool) → eqb (e .kind) 9 ≡ b
-          → newWhole (cond b (record { provider = v .new .provider; created = v .new .created; lrn = e .lrn; due = v .new .due }) (v .new)) ≡ true
+          → newWhole (cond b (record { provider = v .new .provider; created = v .new .created; lrn = e .lrn; due = v .new .due }) (v .new))
+          ≡ true
       go true q = rw (aim .created) (both-true (isTime (v .new .due)) (tenDigits (e .lrn .0)) due (lrn q))
       go false q = row .new
 
@@ -211,8 +230,10 @@ module _ (selected : ℕ) (set : isSet selected ≡ true) (e : Event) (formed : 
   new-same = go (eqb (e .kind) 9)
     where
       go : (b : Bool)
-          → (cond b (record { provider = v .new .provider; created = v .new .created; lrn = e .lrn; due = v .new .due }) (v .new) .provider ≡ v .new .provider)
-          × (cond b (record { provider = v .new .provider; created = v .new .created; lrn = e .lrn; due = v .new .due }) (v .new) .created ≡ v .new .created)
+          → (cond b (record { provider = v .new .provider; created = v .new .created; lrn = e .lrn; due = v .new .due }) (v .new) .provider
+          ≡ v .new .provider)
+          × (cond b (record { provider = v .new .provider; created = v .new .created; lrn = e .lrn; due = v .new .due }) (v .new) .created
+          ≡ v .new .created)
       go true = (refl, refl)
       go false = (refl, refl)
 
@@ -250,7 +271,8 @@ module _ (selected : ℕ) (set : isSet selected ≡ true) (e : Event) (formed : 
         sending = refl;
         uncancelled = no-canceller v row (aim .uncancelled);
         apart = of-parted (opened selected e v .cast) (record { cw = aim .cw; cf = none-in _; wf = none-in _ });
-        retries = every-all (λ (p : ℕ). member (askedFor selected e v) p || eqb (used noRetries p) 0) 63 (λ p l m. rw (used-none p) (or-true (member (askedFor selected e v) p)));
+        retries = every-all (λ (p : ℕ). member (askedFor selected e v) p || eqb (used noRetries p) 0) 63
+            (λ p l m. rw (used-none p) (or-true (member (askedFor selected e v) p)));
         start = lt-ltb 0 (e .time) (f .timed);
         aimed = aim .some;
         lasting = aim .lasting;

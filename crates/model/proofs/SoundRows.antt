@@ -10,7 +10,10 @@ use borrow.Author.Tests.{eqb-true}
 use Rattle.model.specs.Versions.{restated}
 use Rattle.model.specs.Basics.{among, iff, implies, none, with}
 use Rattle.model.specs.Numbers.{tenDigits, isNumber, isTime, isProvider, isSet}
-use Rattle.model.specs.Sound.{pending, conflict, cancelPending, failure, partialFailure, active, old, canceled, isWorked, isSending, isPurposed, inRange, castInRange, retriesInRange, sidesDiffer, newWhole, oldWhole, oneCreated, sidesNeeded, causeFits, cancellerFits, setsApart, retriesFit, startFits, waitingFits, purposeFits, liveFits, liveConfirmed, soundVersion}
+use Rattle.model.specs.Sound.{pending, conflict, cancelPending, failure, partialFailure, active, old, canceled, isWorked, isSending}
+use Rattle.model.specs.Sound.{isPurposed, inRange, castInRange, retriesInRange, sidesDiffer, newWhole, oldWhole, oneCreated}
+use Rattle.model.specs.Sound.{sidesNeeded, causeFits, cancellerFits, setsApart, retriesFit, startFits, waitingFits, purposeFits}
+use Rattle.model.specs.Sound.{liveFits, liveConfirmed, soundVersion}
 use Rattle.model.proofs.Lists.{clash, conj-at, conj-all, both-true}
 use Rattle.model.specs.declared.NewSide.{NewSide}
 use Rattle.model.specs.declared.OldSide.{OldSide}
@@ -29,7 +32,8 @@ pub record CastRanges (c : Broadcast) : Type 0 where
 
 abbrev castClauses : Broadcast → List Bool
 castClauses c =
-    leb (c .purpose) 3 ∷ ltb (c .start) (2 ^ 32) ∷ isSet (c .confirmed) ∷ isSet (c .waiting) ∷ isSet (c .failed) ∷ retriesInRange (c .retries) ∷ []
+    leb (c .purpose) 3 ∷ ltb (c .start) (2 ^ 32) ∷ isSet (c .confirmed) ∷ isSet (c .waiting) ∷ isSet (c .failed)
+    ∷ retriesInRange (c .retries) ∷ []
 
 pub cast-ranges : (c : Broadcast) → castInRange c ≡ true → CastRanges c
 unfolding castInRange
@@ -40,7 +44,8 @@ cast-ranges c h =
 pub ranges-cast : (c : Broadcast) → CastRanges c → castInRange c ≡ true
 unfolding castInRange
 ranges-cast c r =
-    conj-all (castClauses c) (with (r .purpose) (with (r .start) (with (r .confirmed) (with (r .waiting) (with (r .failed) (with (r .retries) none))))))
+    conj-all (castClauses c)
+    (with (r .purpose) (with (r .start) (with (r .confirmed) (with (r .waiting) (with (r .failed) (with (r .retries) none))))))
 
 pub record Ranges (v : Version) : Type 0 where
   pub tn : tenDigits (v .id .tn .0) ≡ true
@@ -67,7 +72,8 @@ pub of-ranges : (v : Version) → Ranges v → inRange v ≡ true
 unfolding inRange
 of-ranges v r =
     conj-all (rangeClauses v)
-    (with (r .tn) (with (r .number) (with (r .status) (with (r .stamp) (with (r .new) (with (r .old) (with (r .canceller) (with (r .cast) none))))))))
+    (with (r .tn) (with (r .number)
+    (with (r .status) (with (r .stamp) (with (r .new) (with (r .old) (with (r .canceller) (with (r .cast) none))))))))
 
 pub record Row (v : Version) : Type 0 where
   pub ranges : Ranges v
@@ -117,7 +123,12 @@ pub of-row : (v : Version) → Row v → soundVersion v ≡ true
 unfolding soundVersion
 of-row v r =
     conj-all (clauses v)
-    (with (of-ranges v (r .ranges)) (with (r .differ) (with (r .new) (with (r .old) (with (r .one) (with (r .needed) (with (r .cause) (with (r .canceller) (with (r .apart) (with (r .retries) (with (r .start) (with (r .waiting) (with (r .purpose) (with (r .live) (with (r .confirmed) none)))))))))))))))
+    (with (of-ranges v (r .ranges))
+    (with (r .differ) (with (r .new)
+    (with (r .old) (with (r .one)
+    (with (r .needed) (with (r .cause)
+    (with (r .canceller) (with (r .apart)
+    (with (r .retries) (with (r .start) (with (r .waiting) (with (r .purpose) (with (r .live) (with (r .confirmed) none)))))))))))))))
 
 -- ---- statuses outside a broadcast
 pub record Calm (s : ℕ) : Type 0 where

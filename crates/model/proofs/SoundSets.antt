@@ -30,7 +30,8 @@ every-at f (suc n) p h l m = go (eqb p (suc n)) refl (every-at f n p (and-l (eve
 pub every-all : (f : ℕ → Bool) (n : ℕ) → ((p : ℕ) → 1 ≤ p → p ≤ n → f p ≡ true) → every f n ≡ true
 unfolding every
 every-all f zero h = refl
-every-all f (suc n) h = both-true (every f n) (f (suc n)) (every-all f n (λ p l m. h p l (omega arith))) (h (suc n) (omega arith) (omega arith))
+every-all f (suc n) h = both-true (every f n) (f (suc n)) (every-all f n (λ p l m. h p l (omega arith)))
+    (h (suc n) (omega arith) (omega arith))
 
 -- ---- a set in range
 
@@ -40,7 +41,11 @@ pub record InSet (s : ℕ) : Type 0 where
 
 pub in-set : (s : ℕ) → isSet s ≡ true → InSet s
 in-set s h =
-    record { low = ltb-true s (2 ^ 64) (and-l (ltb s (2 ^ 64)) (eqb (s % 2) 0) h); even = eqb-true (s % 2) 0 (and-r (ltb s (2 ^ 64)) (eqb (s % 2) 0) h) }
+    record {
+      low = ltb-true s (2 ^ 64) (and-l (ltb s (2 ^ 64)) (eqb (s % 2) 0) h);
+      even = eqb-true (s % 2) 0
+          (and-r (ltb s (2 ^ 64)) (eqb (s % 2) 0) h);
+    }
 
 pub set-in : (s : ℕ) → InSet s → isSet s ≡ true
 set-in s r = both-true (ltb s (2 ^ 64)) (eqb (s % 2) 0) (lt-ltb s (2 ^ 64) (r .low)) (eq-eqb (s % 2) 0 (r .even))
@@ -63,7 +68,11 @@ set-without s p h l k =
     let le : 2 ^ p ≤ s = in-le s p k in
     let e : (s - 2 ^ p) + 2 ^ p ≡ s = omega arith in
     set-in (s - 2 ^ p)
-    (record { low = let lo : s < 2 ^ 64 = r .low in omega arith; even = sym (even-pow (s - 2 ^ p) p l) ∙ ap (λ (x : ℕ). x % 2) e ∙ r .even })
+    (record {
+      low = let lo : s < 2 ^ 64 = r .low in omega arith;
+      even = sym (even-pow (s - 2 ^ p) p l)
+          ∙ ap (λ (x : ℕ). x % 2) e ∙ r .even;
+    })
 
 mask-even : (f : ℕ → Bool) (n : ℕ) → maskOf f n % 2 ≡ 0
 unfolding maskOf

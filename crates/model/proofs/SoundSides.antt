@@ -10,7 +10,8 @@ use native.Mathlib.Omega.{arith}
 use borrow.Author.Tests.{eqb-true, ltb-true, lt-ltb, leb-true, le-leb, not-true}
 use Rattle.model.specs.Basics.{among, iff, implies}
 use Rattle.model.specs.Numbers.{tenDigits, isTime}
-use Rattle.model.specs.Sound.{pending, conflict, cancelPending, canceled, yes, no, isWorked, newWhole, oldWhole, sidesNeeded, causeFits}
+use Rattle.model.specs.Sound.{pending, conflict, cancelPending, canceled, yes, no, isWorked, newWhole, oldWhole, sidesNeeded}
+use Rattle.model.specs.Sound.{causeFits}
 use Rattle.model.specs.Record.{isCreate, named, unused, twoSides, authorizes, wellFormed}
 use Rattle.model.specs.Standing.{standingOf}
 use Rattle.model.specs.Creates.{byNew, newIn, oldIn, newFrom, oldFrom, statusBy, fits, concurred}
@@ -29,7 +30,8 @@ use Rattle.model.specs.declared.Version.{Version}
 
 -- ---- the sides of a sound version
 
-pub needed-in : (v : Version) → Row v → (implies (eqb (v .status) conflict) (v .old .created) ≡ true) × (implies (eqb (v .status) cancelPending) (v .new .created && v .old .created) ≡ true)
+pub needed-in : (v : Version) → Row v → (implies (eqb (v .status) conflict) (v .old .created) ≡ true)
+    × (implies (eqb (v .status) cancelPending) (v .new .created && v .old .created) ≡ true)
 unfolding sidesNeeded
 needed-in v row =
     let a = implies (eqb (v .status) conflict) (v .old .created) in
@@ -38,13 +40,15 @@ needed-in v row =
     (and-l a b h, and-r a b h)
 
 -- the sides stay
-sided : (v : Version) → Row v → (s c : ℕ) → implies (eqb s conflict) (v .old .created) ≡ true → implies (eqb s cancelPending) (v .new .created && v .old .created) ≡ true
+sided : (v : Version) → Row v → (s c : ℕ) → implies (eqb s conflict) (v .old .created) ≡ true
+    → implies (eqb s cancelPending) (v .new .created && v .old .created) ≡ true
     → leb c 2 ≡ true → iff (ltb 0 c) (eqb s cancelPending) ≡ true → Sided s (v .new) (v .old) c
 sided v row s c a b l i =
     record { new = row .new; old = row .old; one = row .one; clashing = a; cancelling = b; cause = row .cause; small = l; canceller = i }
 
 -- nobody is marked, and the status is not cancel-pending
-unmarked : (v : Version) → Row v → eqb (v .status) cancelPending ≡ false → (s : ℕ) → eqb s cancelPending ≡ false → iff (ltb 0 (v .canceller)) (eqb s cancelPending) ≡ true
+unmarked : (v : Version) → Row v → eqb (v .status) cancelPending ≡ false → (s : ℕ) → eqb s cancelPending ≡ false
+    → iff (ltb 0 (v .canceller)) (eqb s cancelPending) ≡ true
 unmarked v row n s q = rw (no-canceller v row n, q)
 
 -- "no" is said by a side that has created
@@ -52,7 +56,8 @@ no-created : (o : OldSide) → oldWhole o ≡ true → eqb (o .authorization) no
 unfolding oldWhole
 no-created o h q = go (o .created) refl h
   where
-    go : (b : Bool) → o .created ≡ b → cond b (isTime (o .due) && among (o .authorization) (yes ∷ no ∷ [])) (eqb (o .due) 0 && eqb (o .authorization) 0) ≡ true → o .created ≡ true
+    go : (b : Bool) → o .created ≡ b → cond b (isTime (o .due) && among (o .authorization) (yes ∷ no ∷ []))
+        (eqb (o .due) 0 && eqb (o .authorization) 0) ≡ true → o .created ≡ true
     go true e k = e
     go false e k =
         let z : o .authorization ≡ 0 = eqb-true (o .authorization) 0 (and-r (eqb (o .due) 0) (eqb (o .authorization) 0) k) in
@@ -66,7 +71,8 @@ unfolding newWhole
 new-from e p f d l = both-true (isTime (e .due)) (tenDigits (e .lrn .0)) (time-is (e .due) (ltb-true 0 (e .due) d) (f .due)) l
 
 -- an authorization with its cause
-answered : (mark cause : ℕ) → authorizes mark cause ≡ true → (among mark (yes ∷ no ∷ []) ≡ true) × (cond (eqb mark no) (leb 1 cause && leb cause 99) (eqb cause 0) ≡ true)
+answered : (mark cause : ℕ) → authorizes mark cause ≡ true → (among mark (yes ∷ no ∷ []) ≡ true)
+    × (cond (eqb mark no) (leb 1 cause && leb cause 99) (eqb cause 0) ≡ true)
 answered mark cause h = go (eqb mark 1) refl (eqb mark 2) refl h
   where
     go : (a : Bool) → eqb mark 1 ≡ a → (b : Bool) → eqb mark 2 ≡ b → ((a && unused cause) || (b && named cause && leb cause 99)) ≡ true
@@ -77,24 +83,32 @@ answered mark cause h = go (eqb mark 1) refl (eqb mark 2) refl h
         off : (x : Bool) → (x || false) ≡ true → x ≡ true
         off true z = refl
         off false z = z
-    go false p true q k = rw (p, q) (refl, both-true (leb 1 cause) (leb cause 99) (le-leb 1 cause (ltb-true 0 cause (and-l (named cause) (leb cause 99) k))) (and-r (named cause) (leb cause 99) k))
+    go false p true q k = rw (p, q) (
+      refl,
+      both-true (leb 1 cause) (leb cause 99) (le-leb 1 cause (ltb-true 0 cause (and-l (named cause) (leb cause 99) k)))
+          (and-r (named cause) (leb cause 99) k),
+    )
     go false p false q k = clash k
 
-pub old-from : (e : Event) (o : OldSide) → o .authorization ≡ e .mark → o .cause ≡ e .cause → o .due ≡ e .due → o .created ≡ true → Fields e → named (e .due) ≡ true
+pub old-from : (e : Event) (o : OldSide) → o .authorization ≡ e .mark → o .cause ≡ e .cause → o .due ≡ e .due → o .created ≡ true
+    → Fields e → named (e .due) ≡ true
     → authorizes (e .mark) (e .cause) ≡ true → (oldWhole o ≡ true) × (causeFits o ≡ true)
 unfolding oldWhole causeFits
 old-from e o pa pc pd cr f d a =
     let r = answered (e .mark) (e .cause) a in (
-      rw (cr, pd, pa) (both-true (isTime (e .due)) (among (e .mark) (yes ∷ no ∷ [])) (time-is (e .due) (ltb-true 0 (e .due) d) (f .due)) (r .0)),
+      rw (cr, pd, pa) (both-true (isTime (e .due)) (among (e .mark) (yes ∷ no ∷ [])) (time-is (e .due) (ltb-true 0 (e .due) d) (f .due))
+          (r .0)),
       rw (pa, pc) (r .1),
     )
 
 -- what a create says
 abbrev newSays : Event → List Bool
-newSays e = twoSides (e .sender) (e .other) ∷ unused (e .mark) ∷ unused (e .cause) ∷ tenDigits (e .lrn .0) ∷ unused (e .version) ∷ named (e .due) ∷ []
+newSays e = twoSides (e .sender) (e .other) ∷ unused (e .mark) ∷ unused (e .cause) ∷ tenDigits (e .lrn .0) ∷ unused (e .version)
+    ∷ named (e .due) ∷ []
 
 abbrev oldSays : Event → List Bool
-oldSays e = twoSides (e .sender) (e .other) ∷ authorizes (e .mark) (e .cause) ∷ unused (e .lrn .0) ∷ unused (e .version) ∷ named (e .due) ∷ []
+oldSays e = twoSides (e .sender) (e .other) ∷ authorizes (e .mark) (e .cause) ∷ unused (e .lrn .0) ∷ unused (e .version)
+    ∷ named (e .due) ∷ []
 
 pub new-fields : (e : Event) → wellFormed e ≡ true → eqb (e .kind) 1 ≡ true → (i : ℕ) → getD (newSays e) i true ≡ true
 new-fields e formed k = conj-at (newSays e) (at-kind e formed 1 (eqb-true (e .kind) 1 k))
@@ -112,19 +126,23 @@ module _ (e : Event) (formed : wellFormed e ≡ true) (v : Version) (row : Row v
 
   -- the status goes to s, the sides stay
   turned-row : (s c : ℕ) (x : Bool) → isWorked (v .status) ≡ true → Calm s → implies (eqb s conflict) (v .old .created) ≡ true
-      → implies (eqb s cancelPending) (v .new .created && v .old .created) ≡ true → leb c 2 ≡ true → iff (ltb 0 c) (eqb s cancelPending) ≡ true → Row (turned e v s c x)
+      → implies (eqb s cancelPending) (v .new .created && v .old .created) ≡ true → leb c 2 ≡ true
+      → iff (ltb 0 c) (eqb s cancelPending) ≡ true → Row (turned e v s c x)
   turned-row s c x w q a b l i =
       row-calm v s (e .time) (v .new) (v .old) c x row (calm-worked (v .status) w) q time refl refl (sided v row s c a b l i)
 
   module _ (al : Allowed e v) where
     -- pending or conflict
-    pub open-status : among (v .status) (pending ∷ conflict ∷ []) ≡ true → (isWorked (v .status) ≡ true) × (eqb (v .status) cancelPending ≡ false)
+    pub open-status : among (v .status) (pending ∷ conflict ∷ []) ≡ true → (isWorked (v .status) ≡ true)
+        × (eqb (v .status) cancelPending ≡ false)
     open-status h = go (eqb (v .status) 0) refl (eqb (v .status) 1) refl
       where
-        at : (n : ℕ) → eqb (v .status) n ≡ true → (isWorked n ≡ true) × (eqb n cancelPending ≡ false) → (isWorked (v .status) ≡ true) × (eqb (v .status) cancelPending ≡ false)
+        at : (n : ℕ) → eqb (v .status) n ≡ true → (isWorked n ≡ true) × (eqb n cancelPending ≡ false) → (isWorked (v .status) ≡ true)
+            × (eqb (v .status) cancelPending ≡ false)
         at n q p = back-equal (v .status) n (λ (s : ℕ). (isWorked s ≡ true) × (eqb s cancelPending ≡ false)) q p
 
-        go : (a : Bool) → eqb (v .status) 0 ≡ a → (b : Bool) → eqb (v .status) 1 ≡ b → (isWorked (v .status) ≡ true) × (eqb (v .status) cancelPending ≡ false)
+        go : (a : Bool) → eqb (v .status) 0 ≡ a → (b : Bool) → eqb (v .status) 1 ≡ b → (isWorked (v .status) ≡ true)
+            × (eqb (v .status) cancelPending ≡ false)
         go true p b q = at 0 p (refl, refl)
         go false p true q = at 1 q (refl, refl)
         go false p false q = clash (rw (p, q) at h)
@@ -135,9 +153,12 @@ module _ (e : Event) (formed : wellFormed e ≡ true) (v : Version) (row : Row v
     row-new-modified k =
         let s = open-status (status-of e v al 3 k) in
         let made : v .new .created ≡ true = stands-new e v (eqb-true (standingOf e v) 0 (stands-of e v al 3 k)) in
-        let of : (i : ℕ) → getD (unused (e .other) ∷ unused (e .mark) ∷ unused (e .cause) ∷ tenDigits (e .lrn .0) ∷ named (e .version) ∷ named (e .due) ∷ []) i true ≡ true
-        = conj-at (unused (e .other) ∷ unused (e .mark) ∷ unused (e .cause) ∷ tenDigits (e .lrn .0) ∷ named (e .version) ∷ named (e .due) ∷ []) (at-kind e formed 3 (eqb-true (e .kind) 3 k)) in
-        row-calm v (v .status) (e .time) (record { provider = v .new .provider; created = v .new .created; lrn = e .lrn; due = e .due }) (v .old) (v .canceller) (v .window) row
+        let of : (i : ℕ) → getD (unused (e .other) ∷ unused (e .mark) ∷ unused (e .cause) ∷ tenDigits (e .lrn .0) ∷ named (e .version)
+        ∷ named (e .due) ∷ []) i true ≡ true
+        = conj-at (unused (e .other) ∷ unused (e .mark) ∷ unused (e .cause) ∷ tenDigits (e .lrn .0) ∷ named (e .version) ∷ named (e .due)
+        ∷ []) (at-kind e formed 3 (eqb-true (e .kind) 3 k)) in
+        row-calm v (v .status) (e .time) (record { provider = v .new .provider; created = v .new .created; lrn = e .lrn; due = e .due })
+        (v .old) (v .canceller) (v .window) row
         (calm-worked (v .status) (s .0)) (calm-worked (v .status) (s .0)) time refl refl
         (record {
           new = rw made (new-from e (v .new .provider) f (of 5) (of 3));
@@ -156,11 +177,15 @@ module _ (e : Event) (formed : wellFormed e ≡ true) (v : Version) (row : Row v
     row-old-modified k =
         let s = open-status (status-of e v al 4 k) in
         let made : v .old .created ≡ true = stands-old e v (eqb-true (standingOf e v) 1 (stands-of e v al 4 k)) in
-        let of : (i : ℕ) → getD (unused (e .other) ∷ authorizes (e .mark) (e .cause) ∷ unused (e .lrn .0) ∷ named (e .version) ∷ named (e .due) ∷ []) i true ≡ true
-        = conj-at (unused (e .other) ∷ authorizes (e .mark) (e .cause) ∷ unused (e .lrn .0) ∷ named (e .version) ∷ named (e .due) ∷ []) (at-kind e formed 4 (eqb-true (e .kind) 4 k)) in
-        let o : OldSide = record { provider = v .old .provider; created = v .old .created; authorization = e .mark; cause = e .cause; due = e .due } in
+        let of : (i : ℕ) → getD (unused (e .other) ∷ authorizes (e .mark) (e .cause) ∷ unused (e .lrn .0) ∷ named (e .version)
+        ∷ named (e .due) ∷ []) i true ≡ true
+        = conj-at (unused (e .other) ∷ authorizes (e .mark) (e .cause) ∷ unused (e .lrn .0) ∷ named (e .version) ∷ named (e .due) ∷ [])
+        (at-kind e formed 4 (eqb-true (e .kind) 4 k)) in
+        let o : OldSide = record
+        { provider = v .old .provider; created = v .old .created; authorization = e .mark; cause = e .cause; due = e .due } in
         let w = old-from e o refl refl refl made f (of 4) (of 1) in
-        row-calm v (cond (eqb (e .mark) no) conflict pending) (e .time) (v .new) o (v .canceller) (v .window) row (calm-worked (v .status) (s .0))
+        row-calm v (cond (eqb (e .mark) no) conflict pending) (e .time) (v .new) o (v .canceller) (v .window) row
+        (calm-worked (v .status) (s .0))
         (calm-cond (eqb (e .mark) no) calm1 calm0) time refl refl
         (record {
           new = row .new;
@@ -193,12 +218,15 @@ module _ (e : Event) (formed : wellFormed e ≡ true) (v : Version) (row : Row v
         side = leb-true (standingOf e v) 1 (stands-of e v al 6 k)
 
         alone : Row (turned e v canceled (v .canceller) (v .window))
-        alone = turned-row canceled (v .canceller) (v .window) (s .0) calm8 refl refl (row .ranges .canceller) (unmarked v row (s .1) canceled refl)
+        alone = turned-row canceled (v .canceller) (v .window) (s .0) calm8 refl refl (row .ranges .canceller)
+            (unmarked v row (s .1) canceled refl)
 
         go : (a : Bool) → v .new .created ≡ a → (b : Bool) → v .old .created ≡ b
-            → Row (cond (a && b) (turned e v cancelPending (suc (standingOf e v)) (v .window)) (turned e v canceled (v .canceller) (v .window)))
+            → Row (cond (a && b) (turned e v cancelPending (suc (standingOf e v)) (v .window))
+            (turned e v canceled (v .canceller) (v .window)))
         go true p true q =
-            turned-row cancelPending (suc (standingOf e v)) (v .window) (s .0) calm2 refl (both-true (v .new .created) (v .old .created) p q)
+            turned-row cancelPending (suc (standingOf e v)) (v .window) (s .0) calm2 refl
+            (both-true (v .new .created) (v .old .created) p q)
             (le-leb (suc (standingOf e v)) 2 (omega (arith, side))) (rw (lt-ltb 0 (suc (standingOf e v)) (omega arith)))
         go true p false q = alone
         go false p b q = alone
@@ -206,7 +234,8 @@ module _ (e : Event) (formed : wellFormed e ≡ true) (v : Version) (row : Row v
     -- 7
     pub row-acknowledged : eqb (e .kind) 7 ≡ true → Row (acknowledged e v)
     unfolding acknowledged
-    row-acknowledged k = turned-row canceled 0 (v .window) (back-equal (v .status) 2 (λ (s : ℕ). isWorked s ≡ true) (status-of e v al 7 k) refl) calm8 refl refl refl refl
+    row-acknowledged k = turned-row canceled 0 (v .window)
+        (back-equal (v .status) 2 (λ (s : ℕ). isWorked s ≡ true) (status-of e v al 7 k) refl) calm8 refl refl refl refl
 
     -- 8
     pub row-resolved : eqb (e .kind) 8 ≡ true → Row (resolved e v)
@@ -215,8 +244,10 @@ module _ (e : Event) (formed : wellFormed e ≡ true) (v : Version) (row : Row v
         let q : eqb (v .status) conflict ≡ true = status-of e v al 8 k in
         let made : v .old .created ≡ true = rw q at (needed-in v row .0) in
         let due : isTime (v .old .due) ≡ true = and-l (isTime (v .old .due)) _ (rw made at (row .old)) in
-        row-calm v pending (e .time) (v .new) (record { provider = v .old .provider; created = v .old .created; authorization = yes; cause = 0; due = v .old .due })
-        (v .canceller) (v .window) row (calm-worked (v .status) (back-equal (v .status) 1 (λ (s : ℕ). isWorked s ≡ true) q refl)) calm0 time refl refl
+        row-calm v pending (e .time) (v .new)
+        (record { provider = v .old .provider; created = v .old .created; authorization = yes; cause = 0; due = v .old .due })
+        (v .canceller) (v .window) row (calm-worked (v .status) (back-equal (v .status) 1 (λ (s : ℕ). isWorked s ≡ true) q refl))
+        calm0 time refl refl
         (record {
           new = row .new;
           old = rw made (both-true (isTime (v .old .due)) true due refl);
@@ -232,7 +263,8 @@ module _ (e : Event) (formed : wellFormed e ≡ true) (v : Version) (row : Row v
     pub window-status : eqb (e .kind) 13 ≡ true → isWorked (v .status) ≡ true
     window-status k = go (eqb (v .status) 0) refl (eqb (v .status) 2) refl (status-of e v al 13 k)
       where
-        go : (a : Bool) → eqb (v .status) 0 ≡ a → (b : Bool) → eqb (v .status) 2 ≡ b → (a || (b || false)) ≡ true → isWorked (v .status) ≡ true
+        go : (a : Bool) → eqb (v .status) 0 ≡ a → (b : Bool) → eqb (v .status) 2 ≡ b → (a || (b || false)) ≡ true
+            → isWorked (v .status) ≡ true
         go true p b q h = back-equal (v .status) 0 (λ (s : ℕ). isWorked s ≡ true) p refl
         go false p true q h = back-equal (v .status) 2 (λ (s : ℕ). isWorked s ≡ true) q refl
         go false p false q h = clash h
@@ -245,13 +277,16 @@ module _ (e : Event) (formed : wellFormed e ≡ true) (v : Version) (row : Row v
             → Row (cond a (turned e v (cond b canceled conflict) 0 (v .window)) (turned e v canceled (v .canceller) (v .window)))
         go true p true q = turned-row canceled 0 (v .window) (window-status k) calm8 refl refl refl refl
         go true p false q =
-            turned-row conflict 0 (v .window) (window-status k) calm1 (and-r (v .new .created) (v .old .created) (rw p at (needed-in v row .1))) refl refl refl
-        go false p b q = turned-row canceled (v .canceller) (v .window) (window-status k) calm8 refl refl (row .ranges .canceller) (unmarked v row p canceled refl)
+            turned-row conflict 0 (v .window) (window-status k) calm1
+            (and-r (v .new .created) (v .old .created) (rw p at (needed-in v row .1))) refl refl refl
+        go false p b q = turned-row canceled (v .canceller) (v .window) (window-status k) calm8 refl refl (row .ranges .canceller)
+            (unmarked v row p canceled refl)
 
     pub row-window-marked : eqb (e .kind) 13 ≡ true → Row (windowMarked e v)
     unfolding windowMarked
     row-window-marked k =
-        turned-row (v .status) (v .canceller) true (window-status k) (calm-worked (v .status) (window-status k)) (needed-in v row .0) (needed-in v row .1)
+        turned-row (v .status) (v .canceller) true (window-status k) (calm-worked (v .status) (window-status k)) (needed-in v row .0)
+        (needed-in v row .1)
         (row .ranges .canceller) (row .canceller)
 
   -- 1 and 2, concurrence
@@ -260,13 +295,17 @@ module _ (e : Event) (formed : wellFormed e ≡ true) (v : Version) (row : Row v
   row-concurred k w h = go (eqb (e .kind) 1) refl (eqb (e .kind) 2) refl
     where
       open? : eqb (v .status) cancelPending ≡ false
-      open? = not-true (eqb (v .status) cancelPending) (conj-at (not (eqb (v .status) cancelPending) ∷ eqb (v .new .provider) (newIn e) ∷ eqb (v .old .provider) (oldIn e) ∷ not (cond (byNew e) (v .new .created) (v .old .created)) ∷ []) h 0)
+      open? = not-true (eqb (v .status) cancelPending)
+          (conj-at (not (eqb (v .status) cancelPending) ∷ eqb (v .new .provider) (newIn e) ∷ eqb (v .old .provider) (oldIn e)
+          ∷ not (cond (byNew e) (v .new .created) (v .old .created)) ∷ []) h 0)
 
-      by : (n : NewSide) (o : OldSide) → n .provider ≡ v .new .provider → o .provider ≡ v .old .provider → newWhole n ≡ true → oldWhole o ≡ true → causeFits o ≡ true
+      by : (n : NewSide) (o : OldSide) → n .provider ≡ v .new .provider → o .provider ≡ v .old .provider → newWhole n ≡ true
+          → oldWhole o ≡ true → causeFits o ≡ true
           → (n .created || o .created) ≡ true → (v .old .created ≡ true → o .created ≡ true) → (x : Bool) → eqb (o .authorization) no ≡ x
           → Row (restated v (cond x conflict (v .status)) (e .time) n o (v .canceller) (v .window))
       by n o pn po wn wo c one up x q =
-          row-calm v (cond x conflict (v .status)) (e .time) n o (v .canceller) (v .window) row (calm-worked (v .status) w) (calm-cond x calm1 (calm-worked (v .status) w)) time pn po
+          row-calm v (cond x conflict (v .status)) (e .time) n o (v .canceller) (v .window) row (calm-worked (v .status) w)
+          (calm-cond x calm1 (calm-worked (v .status) w)) time pn po
           (record {
             new = wn;
             old = wo;
@@ -286,14 +325,18 @@ module _ (e : Event) (formed : wellFormed e ≡ true) (v : Version) (row : Row v
           lift true b c h g = g h
           lift false b c h g = refl
 
-          in-conflict : (x : Bool) → eqb (o .authorization) no ≡ x → implies (eqb (cond x conflict (v .status)) conflict) (o .created) ≡ true
+          in-conflict : (x : Bool) → eqb (o .authorization) no ≡ x
+              → implies (eqb (cond x conflict (v .status)) conflict) (o .created) ≡ true
           in-conflict true q = no-created o wo q
           in-conflict false q = lift (eqb (v .status) conflict) (v .old .created) (o .created) (needed-in v row .0) up
 
       go : (a : Bool) → eqb (e .kind) 1 ≡ a → (b : Bool) → eqb (e .kind) 2 ≡ b
-          → Row (restated v (statusBy (cond a (v .old) (oldFrom e (v .old .provider))) (v .status)) (e .time) (cond a (newFrom e (v .new .provider)) (v .new)) (cond a (v .old) (oldFrom e (v .old .provider))) (v .canceller) (v .window))
+          → Row (restated v (statusBy (cond a (v .old) (oldFrom e (v .old .provider))) (v .status)) (e .time)
+          (cond a (newFrom e (v .new .provider)) (v .new)) (cond a (v .old) (oldFrom e (v .old .provider))) (v .canceller) (v .window))
       go true p b q =
-          by (newFrom e (v .new .provider)) (v .old) refl refl (new-from e (v .new .provider) f (new-fields e formed p 5) (new-fields e formed p 3)) (row .old) (row .cause) refl (λ z. z) (eqb (v .old .authorization) no) refl
+          by (newFrom e (v .new .provider)) (v .old) refl refl
+          (new-from e (v .new .provider) f (new-fields e formed p 5) (new-fields e formed p 3)) (row .old) (row .cause) refl (λ z. z)
+          (eqb (v .old .authorization) no) refl
       go false p true q =
           let o : OldSide = oldFrom e (v .old .provider) in
           let r = old-from e o refl refl refl refl f (old-fields e formed q 4) (old-fields e formed q 1) in

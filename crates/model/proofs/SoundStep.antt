@@ -35,7 +35,8 @@ use Rattle.model.specs.declared.Outcome.the-variants.{Malformed, Unknown
 allowed : (e : Event) (v : Version) → lacksStanding e v ≡ false → wrongStatus e v ≡ false → Allowed e v
 unfolding gridRule
 allowed e v a b =
-    let r = go (standsFor (e .kind) (standingOf e v)) (statusFor (e .kind) (v .status)) a (or-off (eqb (gridRule (v .status) (e .kind) (standingOf e v)) 7) (unready e v) b .0) in
+    let r = go (standsFor (e .kind) (standingOf e v)) (statusFor (e .kind) (v .status)) a
+    (or-off (eqb (gridRule (v .status) (e .kind) (standingOf e v)) 7) (unready e v) b .0) in
     record { stands = r .0; allowed = r .1 }
   where
     go : (x y : Bool) → eqb (cond x (cond y 0 7) 6) 6 ≡ false → eqb (cond x (cond y 0 7) 6) 7 ≡ false → (x ≡ true) × (y ≡ true)
@@ -44,7 +45,8 @@ allowed e v a b =
     go false y p q = clash (sym p)
 
 -- ---- the rules keep the rows of a number sound
-module _ (lineOf : ℕ → ℕ) (s : Setting) (small : soundRetries (s .most) ≡ true) (free : Bool) (e : Event) (formed : wellFormed e ≡ true) (r : List Version)
+module _ (lineOf : ℕ → ℕ) (s : Setting) (small : soundRetries (s .most) ≡ true) (free : Bool) (e : Event) (formed : wellFormed e ≡ true)
+    (r : List Version)
     (ground : Ground lineOf (lineOf (e .tn .0)) r) where
   abbrev G : Given
   G = record { books = s .books; most = s .most; free = free; event = e; rows = r }
@@ -94,7 +96,8 @@ module _ (lineOf : ℕ → ℕ) (s : Setting) (small : soundRetries (s .most) �
     unknown = keeps-refuse Unknown r (ground .line);
   })
 
-pub keeps-rule : (lineOf : ℕ → ℕ) (s : Setting) → soundRetries (s .most) ≡ true → (free : Bool) (e : Event) (r : List Version) → Ground lineOf (lineOf (e .tn .0)) r
+pub keeps-rule : (lineOf : ℕ → ℕ) (s : Setting) → soundRetries (s .most) ≡ true → (free : Bool) (e : Event) (r : List Version)
+    → Ground lineOf (lineOf (e .tn .0)) r
     → Keeps r (ruleIn s free e r)
 keeps-rule lineOf s small free e r g =
     by-test (Keeps r) (wellFormed e)

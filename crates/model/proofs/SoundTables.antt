@@ -12,7 +12,8 @@ use borrow.Author.Tests.{eqb-true, eq-eqb, leb-true, le-leb, ltb-true, not-false
 use Rattle.model.specs.Basics.{all, keep, All, none, with}
 use Rattle.model.specs.Books.{soundRetries}
 use Rattle.model.specs.Table.{order, sel, Change, put, inLine, rowsOf, changes}
-use Rattle.model.specs.Sound.{soundVersion, oneEach, numbered, noneTwice, soundLine, above, rising, soundLines, soundTable, count, live, sends, worked}
+use Rattle.model.specs.Sound.{soundVersion, oneEach, numbered, noneTwice, soundLine, above, rising, soundLines, soundTable, count}
+use Rattle.model.specs.Sound.{live, sends, worked}
 use Rattle.model.specs.Record.{isCreate, wellFormed}
 use Rattle.model.specs.Outcomes.{isDone, createOrder}
 use Rattle.model.specs.Given.{Given, Result, withNumber, rest, workedOne}
@@ -22,7 +23,8 @@ use Rattle.model.specs.Selection.{selectedFor}
 use Rattle.model.specs.Answers.{answers, heard}
 use Rattle.model.specs.Refusals.{full, refuses}
 use Rattle.model.specs.Step.{manages, accepted, judged, Setting, after}
-use Rattle.model.proofs.Lists.{clash, and-l, and-r, both-true, all-first, conj-at, conj-all, all-true, true-all, all-keep, all-both, head-of}
+use Rattle.model.proofs.Lists.{clash, and-l, and-r, both-true, all-first, conj-at, conj-all, all-true, true-all, all-keep, all-both}
+use Rattle.model.proofs.Lists.{head-of}
 use Rattle.model.proofs.TableLaws.{Under, Rising, adds, length-changes}
 use Rattle.model.proofs.Apart.{stepBy, rows-rows}
 use Rattle.model.proofs.Locality.{ruleIn, local, adds-settles}
@@ -44,7 +46,8 @@ rising-from : (k : Id) (l : List Version) → above k l ≡ true → Under k l �
 rising-from k [] h = (tt, tt)
 rising-from k (y ∷ ys) h = at (order k (y .id)) refl h (rising-from (y .id) ys)
   where
-    at : (o : Ordering) → order k (y .id) ≡ o → sel o (above (y .id) ys) false false ≡ true → (above (y .id) ys ≡ true → Under (y .id) ys × Rising ys)
+    at : (o : Ordering) → order k (y .id) ≡ o → sel o (above (y .id) ys) false false ≡ true
+        → (above (y .id) ys ≡ true → Under (y .id) ys × Rising ys)
         → (order k (y .id) ≡ Ordering·lt) × (Under (y .id) ys × Rising ys)
     at Ordering·lt e q f = (e, f q)
     at Ordering·eq e q f = clash q
@@ -69,13 +72,19 @@ unfolding oneEach
 each-says r h =
     let of : (i : ℕ) → getD (leb (count live r) 1 ∷ leb (count sends r) 1 ∷ leb (count worked r) 1 ∷ []) i true ≡ true
     = conj-at (leb (count live r) 1 ∷ leb (count sends r) 1 ∷ leb (count worked r) 1 ∷ []) h in
-    record { lives = leb-true (count live r) 1 (of 0); sends = leb-true (count sends r) 1 (of 1); works = leb-true (count worked r) 1 (of 2) }
+    record {
+      lives = leb-true (count live r) 1 (of 0);
+      sends = leb-true (count sends r) 1 (of 1);
+      works = leb-true
+          (count worked r) 1 (of 2);
+    }
 
 says-each : (r : List Version) → Line r → oneEach r ≡ true
 unfolding oneEach
 says-each r l =
     conj-all (leb (count live r) 1 ∷ leb (count sends r) 1 ∷ leb (count worked r) 1 ∷ [])
-    (with (le-leb (count live r) 1 (l .lives)) (with (le-leb (count sends r) 1 (l .sends)) (with (le-leb (count worked r) 1 (l .works)) none)))
+    (with (le-leb (count live r) 1 (l .lives))
+    (with (le-leb (count sends r) 1 (l .sends)) (with (le-leb (count worked r) 1 (l .works)) none)))
 
 -- no number twice
 twice-says : (r : List Version) → noneTwice r ≡ true → Distinct r
@@ -117,7 +126,8 @@ lines-say line t h l = go (rowsOf line l t) refl
     P v = soundLine (rowsOf line (line (v .id .tn .0)) t) ≡ true
 
     each : All (λ (v : Version). P v × (line (v .id .tn .0) ≡ l)) (rowsOf line l t)
-    each = all-both (λ a p q. (p, q)) (all-keep _ (all-true (λ (v : Version). soundLine (rowsOf line (line (v .id .tn .0)) t)) t h)) (rows-rows line l t)
+    each = all-both (λ a p q. (p, q)) (all-keep _ (all-true (λ (v : Version). soundLine (rowsOf line (line (v .id .tn .0)) t)) t h))
+        (rows-rows line l t)
 
     go : (r : List Version) → rowsOf line l t ≡ r → Whole (rowsOf line l t)
     go [] q = rw q (record { lives = omega arith; sends = omega arith; works = omega arith }, record { once = λ n. omega arith })
@@ -170,11 +180,16 @@ pub says-table : (line : ℕ → ℕ) (rows : ℕ) (t : List Version) → SoundI
 unfolding soundTable
 says-table line rows t s =
     conj-all (tableClauses line rows t)
-    (with (le-leb rows 4096 (s .few)) (with (le-leb (length t) rows (s .held)) (with (says-rising t (s .sound .rising)) (with (true-all soundVersion (say-rows t (s .sound .rows))) (with (say-lines line t (λ l. (s .sound .lines l, s .sound .numbers l))) none)))))
+    (with (le-leb rows 4096 (s .few))
+    (with (le-leb (length t) rows (s .held))
+    (with (says-rising t (s .sound .rising))
+    (with (true-all soundVersion (say-rows t (s .sound .rows)))
+    (with (say-lines line t (λ l. (s .sound .lines l, s .sound .numbers l))) none)))))
 
 -- ---- a table that is sound by its lines is sound by its TNs
 
-count-sub : (p q r : Version → Bool) (t : List Version) → ((v : Version) → q v ≡ true → r v ≡ true) → count p (keep q t) ≤ count p (keep r t)
+count-sub : (p q r : Version → Bool) (t : List Version) → ((v : Version) → q v ≡ true → r v ≡ true)
+    → count p (keep q t) ≤ count p (keep r t)
 count-sub p q r [] h = omega arith
 count-sub p q r (x ∷ xs) h = go (q x) refl (r x) refl (count-sub p q r xs h)
   where
@@ -266,7 +281,8 @@ distinct-rule s free e r d =
 
 -- ---- every step
 
-pub sound-rules : (lineOf : ℕ → ℕ) (s : Setting) → soundRetries (s .most) ≡ true → (e : Event) (t : List Version) → SoundIn lineOf (s .rows) t
+pub sound-rules : (lineOf : ℕ → ℕ) (s : Setting) → soundRetries (s .most) ≡ true → (e : Event) (t : List Version)
+    → SoundIn lineOf (s .rows) t
     → SoundIn lineOf (s .rows) (after (stepBy lineOf (ruleIn s) (s .rows)) e t)
 sound-rules lineOf s small e t i = record {
   few = i .few;
@@ -281,5 +297,6 @@ sound-rules lineOf s small e t i = record {
     grown = omega (arith, length-changes cs t, adds-rule s (ltb (length t) (s .rows)) e (rowsOf lineOf (lineOf (e .tn .0)) t))
 
     go : (b : Bool) → ltb (length t) (s .rows) ≡ b → length (changes cs t) ≤ s .rows
-    go true q = let l : length t < s .rows = ltb-true (length t) (s .rows) q in let g : length (changes cs t) ≤ length t + 1 = rw q at grown in omega arith
+    go true q = let l : length t < s .rows = ltb-true (length t) (s .rows) q in let g : length (changes cs t) ≤ length t + 1 =
+        rw q at grown in omega arith
     go false q = let g : length (changes cs t) ≤ length t + 0 = rw q at grown in omega (arith, i .held)

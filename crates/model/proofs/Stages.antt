@@ -58,7 +58,8 @@ sameCast a b =
 
 abbrev pub sameRow : Version → Version → Bool
 sameRow a b =
-    sameId (a .id) (b .id) && eqb (a .status) (b .status) && eqb (a .stamp) (b .stamp) && iff (a .live) (b .live) && sameNew (a .new) (b .new)
+    sameId (a .id) (b .id) && eqb (a .status) (b .status) && eqb (a .stamp) (b .stamp) && iff (a .live) (b .live)
+    && sameNew (a .new) (b .new)
     && sameOld (a .old) (b .old) && eqb (a .canceller) (b .canceller) && iff (a .window) (b .window) && sameCast (a .cast) (b .cast)
 
 abbrev pub sameMessage : Message → Message → Bool

@@ -117,7 +117,8 @@ change-hit c (strike j) t h = refl
 
 -- ---- two changes of different names commute
 
-comm-lt : (c d : Change) (t : List Version) → order (nameOf c) (nameOf d) ≡ Ordering·lt → Rising t → change c (change d t) ≡ change d (change c t)
+comm-lt : (c d : Change) (t : List Version) → order (nameOf c) (nameOf d) ≡ Ordering·lt → Rising t
+    → change c (change d t) ≡ change d (change c t)
 comm-lt c d [] h r = change-under c (miss d []) (under-miss (nameOf c) d [] h tt) ∙ sym (change-miss d c [] h)
 comm-lt c d (x ∷ xs) h r = go (order (nameOf c) x.id) refl (comm-lt c d xs h (r .1))
   where
@@ -130,7 +131,8 @@ comm-lt c d (x ∷ xs) h r = go (order (nameOf c) x.id) refl (comm-lt c d xs h (
         let up : order (nameOf d) x.id ≡ Ordering·gt = order-lt x.id (nameOf d) (rw (order-eq (nameOf c) x.id e) at h) in
         rw (up, e) (sym (change-hit d c xs h))
     go Ordering·gt e ih =
-        let up : order (nameOf d) x.id ≡ Ordering·gt = order-lt x.id (nameOf d) (order-trans x.id (nameOf c) (nameOf d) (order-gt (nameOf c) x.id e) h) in
+        let up : order (nameOf d) x.id ≡ Ordering·gt =
+        order-lt x.id (nameOf d) (order-trans x.id (nameOf c) (nameOf d) (order-gt (nameOf c) x.id e) h) in
         rw (up, e, up) (ap (λ (l : List Version). x ∷ l) ih)
 
 pub change-comm : (c d : Change) (t : List Version) → (nameOf c ≡ nameOf d → ⊥) → Rising t → change c (change d t) ≡ change d (change c t)
@@ -205,7 +207,8 @@ length-change : (c : Change) (t : List Version) → length (change c t) ≤ leng
 length-change c [] = length-miss c []
 length-change c (x ∷ xs) = go (order (nameOf c) x.id) refl (length-change c xs)
   where
-    go : (o : Ordering) → order (nameOf c) x.id ≡ o → length (change c xs) ≤ length xs + fresh c → length (change c (x ∷ xs)) ≤ length (x ∷ xs) + fresh c
+    go : (o : Ordering) → order (nameOf c) x.id ≡ o → length (change c xs) ≤ length xs + fresh c
+        → length (change c (x ∷ xs)) ≤ length (x ∷ xs) + fresh c
     go Ordering·lt e ih = rw e (length-miss c (x ∷ xs))
     go Ordering·eq e ih = rw e (omega (arith, length-hit c xs))
     go Ordering·gt e ih = rw e (omega arith)

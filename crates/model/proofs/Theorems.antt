@@ -30,7 +30,8 @@ use Rattle.model.proofs.Asking.{toLocalSms, asked, told, shown, classes
 use Rattle.model.proofs.Effects.{modest-step, fine-step, other-rows}
 use Rattle.model.proofs.Stages.{passes, allPass, asks12}
 use Rattle.model.proofs.Twins.{twins, twins-computed}
-use Rattle.model.proofs.Worked.{examples, worked-examples, listing, the-listing, slips, slips-shut-out, dueDates, dates-shown, waitingTable, inOrder, places, Instance, an-instance}
+use Rattle.model.proofs.Worked.{examples, worked-examples, listing, the-listing, slips, slips-shut-out, dueDates, dates-shown}
+use Rattle.model.proofs.Worked.{waitingTable, inOrder, places, Instance, an-instance}
 use Rattle.model.proofs.Cells.{cells, entries, by-place}
 use Rattle.model.specs.declared.Version.{Version}
 use Rattle.model.specs.declared.Event.{Event}
@@ -42,7 +43,8 @@ pub stays-sound : (s : Setting) (e : Event) (t : List Version) → unsound s t �
 stays-sound s e t h = rw (step-is s e t h) (bare-keeps s e t h)
 
 -- Every outcome 0 leaves a sound table, whatever was offered. [V12]
-pub done-sound : (s : Setting) (e : Event) (t : List Version) → isDone (stepOf s e t .out) ≡ true → soundTable (line s) (s .rows) (after (stepOf s) e t) ≡ true
+pub done-sound : (s : Setting) (e : Event) (t : List Version) → isDone (stepOf s e t .out) ≡ true
+    → soundTable (line s) (s .rows) (after (stepOf s) e t) ≡ true
 unfolding step
 done-sound s e t h = go (unsound s t) refl h
   where
@@ -63,7 +65,8 @@ pub at-most-63 : (s : Setting) (e : Event) (t : List Version) → length (stepOf
 at-most-63 s e t = modest-step s e t .few
 
 -- A message is only about its event's line. [A3.7]
-pub messages-of-the-line : (s : Setting) (e : Event) (t : List Version) → All (λ (m : Message). line s (m .id .tn .0) ≡ line s (e .tn .0)) (stepOf s e t .sent)
+pub messages-of-the-line : (s : Setting) (e : Event) (t : List Version)
+    → All (λ (m : Message). line s (m .id .tn .0) ≡ line s (e .tn .0)) (stepOf s e t .sent)
 messages-of-the-line s e t = fine-step s e t .about
 
 -- A step touches only rows of its line. [A3.2]
@@ -75,8 +78,8 @@ rows-of-other-lines = other-rows
 pub demand3 : Demand3
 demand3 = reordering
 
--- Its premises can be met, with both of its cases: two answers for one version are exchanged, then an answer with a create of another number. Both
--- orders are computed, and demand 3 says of them that they agree. [H4]
+-- Its premises can be met, with both of its cases: two answers for one version are exchanged, then an answer with a create of another
+-- number. Both orders are computed, and demand 3 says of them that they agree. [H4]
 pub demand3-instance : Instance
 demand3-instance = an-instance
 
@@ -95,8 +98,9 @@ step-listing = the-listing
 pub slips-refused : allPass slips ≡ true
 slips-refused = slips-shut-out
 
--- A concurrence that is accepted leaves both due dates equal: where a create finds a worked version and is done, that version is in the table
--- after it, and both of its due dates are the event's. Nothing is said of the events after it: kinds 3 and 4 may part the dates again. [A4.1]
+-- A concurrence that is accepted leaves both due dates equal: where a create finds a worked version and is done, that version is in the
+-- table after it, and both of its due dates are the event's. Nothing is said of the events after it: kinds 3 and 4 may part the dates
+-- again. [A4.1]
 pub concurrence-agrees : (s : Setting) (e : Event) (t : List Version) (v : Version) → isCreate (e .kind) ≡ true
     → workedOne (rowsOf (line s) (line s (e .tn .0)) t) ≡ some v → isDone (stepOf s e t .out) ≡ true
     → holds (find (v .id) (after (stepOf s) e t)) (λ (w : Version). eqb (w .new .due) (e .due) && eqb (w .old .due) (e .due)) ≡ true
@@ -112,8 +116,8 @@ another-due-alone = alone
 pub lines-shown : allPass twins ≡ true
 lines-shown = twins-computed
 
--- The due dates of A4, on four tables: 18 for either side, in conflict alike, by the date that the row has now; 8, 12 and 9 before it; a modify
--- that parts the dates again. [A4.1, A4.2]
+-- The due dates of A4, on four tables: 18 for either side, in conflict alike, by the date that the row has now; 8, 12 and 9 before it; a
+-- modify that parts the dates again. [A4.1, A4.2]
 pub due-dates-shown : allPass dueDates ≡ true
 due-dates-shown = dates-shown
 

@@ -8,21 +8,23 @@ use Rattle.model.specs.Creates.{oldAbsent, noBroadcast}
 use Rattle.model.specs.Sound.{pending, sending, active, old, activate}
 use Rattle.model.specs.Step.{Setting}
 use Rattle.model.specs.Tray.{status, attributes, download}
-use Rattle.model.proofs.Stages.{Stage, Example, allPass, nobody, only, both, everybody, filter, event, tn, lrn, newSide, success}
+use Rattle.model.proofs.Stages.{Example, allPass, nobody, only, both, everybody, filter, event, tn, lrn, newSide, success}
 use Rattle.model.proofs.Stages.{rowFor, row, newBy, oldBy, single, agreedOn, cast, sends, closes, canceledOne}
 use Rattle.model.proofs.Stages.{messageFor, createdFor, createdTo, attributesTo, statusTo, downloadsTo, done, refused, given}
 use Rattle.model.specs.Answers.{again, moved, heard, askedAgain, answers}
 use Rattle.model.specs.Basics.{every}
 use Rattle.model.specs.Books.{ownerOf, partnerOf, filters, soundMarks, soundCodes, soundFilters, soundSplits, soundBooks, lineIn}
 use Rattle.model.specs.Broadcast.{askedFor, opened, broadcasts}
-use Rattle.model.specs.Changes.{newModified, oldModified, cancelled, acknowledged, ownCancel, resolved, windowTurned, windowMarked, windowSpent, windowRuns}
+use Rattle.model.specs.Changes.{newModified, oldModified, cancelled, acknowledged, ownCancel, resolved, windowTurned, windowMarked}
+use Rattle.model.specs.Changes.{windowSpent, windowRuns}
 use Rattle.model.specs.Closing.{closeTo, closed, retired, retires, closingTold, settled, settles, settlingTold}
 use Rattle.model.specs.Creates.{currentFor, freshVersion, fits, concurred, creates}
 use Rattle.model.specs.Record.{kindFits, fitsBits, wellFormed}
 use Rattle.model.specs.Refusals.{early, busyWith, busy, unawaited, notCurrent, unfit, anotherDue, exhausted, full}
 use Rattle.model.specs.Retries.{octal, withOctal, used, withUsed}
 use Rattle.model.specs.Selection.{skipped, classOf, selectedFor}
-use Rattle.model.specs.Sound.{retriesInRange, castInRange, inRange, newWhole, oldWhole, sidesNeeded, causeFits, apart, setsApart, retriesFit, soundVersion, oneEach, soundLines, soundTable, noneTwice, soundLine}
+use Rattle.model.specs.Sound.{retriesInRange, castInRange, inRange, newWhole, oldWhole, sidesNeeded, causeFits, apart, setsApart}
+use Rattle.model.specs.Sound.{retriesFit, soundVersion, oneEach, soundLines, soundTable, noneTwice, soundLine}
 use Rattle.model.specs.Standing.{standingOf, gridRule, unready}
 use Rattle.model.specs.Step.{manages, accepted, rule, unsound, step}
 use Rattle.model.specs.Table.{order}
@@ -69,18 +71,21 @@ taken = rowFor twin 2 active 132 true (newBy 3) (oldBy 2) false (cast activate 0
 
 pub twins : List Example
 twins =
-    -- Created under one name: concurrence, activation and a reply under the other find the version, which keeps its name in row and messages.
+    -- Created under one name: concurrence, activation and a reply under the other find the version, which keeps its name in row and
+    -- messages.
     given (paired 1) []
     (done (newSide 2 1 10) (createdTo 1 (1 ∷ 2 ∷ [])) (single 1 10 2 1 ∷ [])
     ∷ done (event 2 1 2 1 twin 0 0 20 100) (attributesTo 1 (1 ∷ 2 ∷ [])) (agreedOn 1 20 2 1 ∷ [])
     ∷ done (event 5 2 0 0 twin 0 1 100 0) (downloadsTo activate 1 (1 ∷ 2 ∷ [])) (sends 1 100 2 1 nobody both nobody ∷ [])
     ∷ done (event 11 1 0 1 twin 0 1 101 0) [] (sends 1 101 2 1 (only 1) (only 2) nobody ∷ [])
     ∷ done (success 2 1 102) (statusTo 1 active nobody (1 ∷ 2 ∷ [])) (first ∷ [])
-    -- The live version's new provider is current, whatever name the create uses; its number is above the line's newest, its row has the event's name.
+    -- The live version's new provider is current, whatever name the create uses; its number is above the line's newest, its row has the
+    -- event's name.
     ∷ refused (event 1 3 1 0 twin lrn 0 110 100) 12 (first ∷ [])
     ∷ done (event 1 3 2 0 twin lrn 0 110 100) (createdFor twin 2 (2 ∷ 3 ∷ [])) (first ∷ second 110 ∷ [])
     ∷ refused (event 1 3 2 0 tn lrn 0 115 100) 9 (first ∷ second 110 ∷ [])
-    ∷ done (event 2 2 3 1 tn 0 0 120 100) (map (messageFor twin false attributes 2 pending nobody lrn) (2 ∷ 3 ∷ [])) (first ∷ joined 120 ∷ [])
+    ∷ done (event 2 2 3 1 tn 0 0 120 100) (map (messageFor twin false attributes 2 pending nobody lrn) (2 ∷ 3 ∷ []))
+    (first ∷ joined 120 ∷ [])
     -- The other name's stamp counts, and its sending version.
     ∷ refused (event 10 2 0 0 tn 0 1 119 0) 8 (first ∷ joined 120 ∷ [])
     ∷ done (event 5 3 0 0 tn 0 2 130 0) (map (messageFor twin true (download activate) 2 sending nobody lrn) (1 ∷ 2 ∷ []))
@@ -112,5 +117,11 @@ twins =
     ∷ []
 
 pub twins-computed : allPass twins ≡ true
-unfolding accepted acknowledged again anotherDue answers apart askedAgain askedFor broadcasts busy busyWith cancelled castInRange causeFits classOf closeTo closed closingTold concurred creates currentFor early every exhausted filters fits fitsBits freshVersion full gridRule heard inRange kindFits lineIn manages members moved newModified newWhole noneTwice notCurrent octal oldModified oldWhole oneEach opened order ownCancel ownerOf partnerOf resolved retired retires retriesFit retriesInRange rule selectedFor setsApart settled settles settlingTold sidesNeeded skipped soundBooks soundCodes soundFilters soundLine soundLines soundMarks soundSplits soundTable soundVersion standingOf step unawaited unfit unready unsound used wellFormed windowMarked windowRuns windowSpent windowTurned withOctal withUsed member maskOf meet size twins
+unfolding accepted acknowledged again anotherDue answers apart askedAgain askedFor broadcasts busy busyWith cancelled castInRange causeFits
+    classOf closeTo closed closingTold concurred creates currentFor early every exhausted filters fits fitsBits freshVersion full gridRule
+    heard inRange kindFits lineIn manages members moved newModified newWhole noneTwice notCurrent octal oldModified oldWhole oneEach opened
+    order ownCancel ownerOf partnerOf resolved retired retires retriesFit retriesInRange rule selectedFor setsApart settled settles
+    settlingTold sidesNeeded skipped soundBooks soundCodes soundFilters soundLine soundLines soundMarks soundSplits soundTable soundVersion
+    standingOf step unawaited unfit unready unsound used wellFormed windowMarked windowRuns windowSpent windowTurned withOctal withUsed
+    member maskOf meet size twins
 twins-computed = refl

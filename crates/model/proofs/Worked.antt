@@ -1,5 +1,6 @@
 -- The worked examples of document 01: P1 to P8 as one table with one statement, the step program's listing, its slips, the due dates of
--- request A4, and an instance of demand 3. After each event everything is compared: the outcome, every field of every message, every field of every row. [H5, Z1]
+-- request A4, and an instance of demand 3. After each event everything is compared: the outcome, every field of every message, every field
+-- of every row. [H5, Z1]
 -- Assumes nothing.
 use mathlib.Core.Path.{_≡_, refl}
 use Prim.Native.Nat.{ℕ}
@@ -11,7 +12,8 @@ use Rattle.model.specs.Answers.{again, moved, heard, askedAgain, answers
 use Rattle.model.specs.Basics.{every, none, with}
 use Rattle.model.specs.Books.{ownerOf, partnerOf, filters, soundMarks, soundCodes, soundFilters, soundSplits, soundBooks, lineIn}
 use Rattle.model.specs.Broadcast.{askedFor, opened, broadcasts}
-use Rattle.model.specs.Changes.{newModified, oldModified, cancelled, acknowledged, ownCancel, resolved, windowTurned, windowMarked, windowSpent, windowRuns}
+use Rattle.model.specs.Changes.{newModified, oldModified, cancelled, acknowledged, ownCancel, resolved, windowTurned, windowMarked}
+use Rattle.model.specs.Changes.{windowSpent, windowRuns}
 use Rattle.model.specs.Closing.{closeTo, closed, retired, retires, closingTold, settled, settles, settlingTold}
 use Rattle.model.specs.Creates.{currentFor, freshVersion, fits, concurred, creates, newAbsent, oldAbsent, noBroadcast}
 use Rattle.model.specs.Record.{kindFits, fitsBits, wellFormed}
@@ -19,7 +21,8 @@ use Rattle.model.specs.Refusals.{early, busyWith, busy, unawaited, notCu
 use Rattle.model.specs.Retries.{octal, withOctal, used, withUsed}
 use Rattle.model.specs.Selection.{skipped, classOf, selectedFor}
 use Rattle.model.specs.Sound.{pending, conflict, sending, failure, partialFailure, active, old, activate, disconnect, yes, no}
-use Rattle.model.specs.Sound.{retriesInRange, castInRange, inRange, newWhole, oldWhole, sidesNeeded, causeFits, apart, setsApart, retriesFit, soundVersion, oneEach, soundLines, soundTable, noneTwice, soundLine}
+use Rattle.model.specs.Sound.{retriesInRange, castInRange, inRange, newWhole, oldWhole, sidesNeeded, causeFits, apart, setsApart}
+use Rattle.model.specs.Sound.{retriesFit, soundVersion, oneEach, soundLines, soundTable, noneTwice, soundLine}
 use Rattle.model.specs.Standing.{standingOf, gridRule, unready}
 use Rattle.model.specs.Exchange.{Exchangeable, answers, lines, May, reorder, Premises}
 use Rattle.model.specs.Step.{line, manages, accepted, rule, unsound, step}
@@ -30,8 +33,10 @@ use Rattle.model.specs.declared.Version.{Version}
 use Rattle.model.specs.declared.NewSide.{NewSide}
 use Rattle.model.specs.declared.OldSide.{OldSide}
 use Rattle.model.proofs.Stages.{Stage, Example, passes, allPass}
-use Rattle.model.proofs.Stages.{nobody, only, both, everybody, filter, setting, asks12, asksNobody, event, tn, lrn, newSide, oldSide, activation, success, failing, silence, ending, resend, purge}
-use Rattle.model.proofs.Stages.{rowFor, row, newBy, oldBy, single, agreedOn, cast, sends, closes, earlier, canceledOne, liveOne, message, createdFor, createdTo, attributesTo, statusTo, downloadsTo, done, refused, given}
+use Rattle.model.proofs.Stages.{nobody, only, both, everybody, filter, setting, asks12, asksNobody, event, tn, lrn, newSide}
+use Rattle.model.proofs.Stages.{oldSide, activation, success, failing, silence, ending, resend, purge}
+use Rattle.model.proofs.Stages.{rowFor, row, newBy, oldBy, single, agreedOn, cast, sends, closes, earlier, canceledOne, liveOne}
+use Rattle.model.proofs.Stages.{message, createdFor, createdTo, attributesTo, statusTo, downloadsTo, done, refused, given}
 
 -- Provider 2 creates at 10, from provider 1, which concurs at 20.
 abbrev agreed : List Stage
@@ -60,7 +65,15 @@ oldOne t = row 1 old t false earlier (oldAbsent 1) true (cast 0 0 both nobody no
 abbrev retried : ℕ → ℕ → Version
 retried t n =
     row 1 sending t false (newBy 2) (oldBy 1) false
-    (record { purpose = activate; start = 100; confirmed = nobody; waiting = both; failed = nobody; retries = record { low = n; mid = 0; high = 0 } })
+    (record {
+      purpose = activate;
+      start = 100;
+      confirmed = nobody;
+      waiting = both;
+      failed = nobody;
+      retries = record
+          { low = n; mid = 0; high = 0 };
+    })
 
 -- the version of provider 2 after the resend of time 200: system 1 stays confirmed, system 2 is asked again
 abbrev resent : Version
@@ -319,7 +332,13 @@ pub record Instance : Type 0 where
 -- ---- the statements
 
 computed : (allPass examples ≡ true) × (passes listing ≡ true) × (allPass slips ≡ true) × (allPass dueDates ≡ true)
-unfolding accepted acknowledged again anotherDue answered apart askedAgain askedFor broadcasts busy busyWith cancelled castInRange causeFits classOf closeTo closed closingTold concurred creates currentFor early every exhausted filters fits fitsBits freshVersion full gridRule heard inRange kindFits lineIn manages members moved newModified newWhole noneTwice notCurrent octal oldModified oldWhole oneEach opened order ownCancel ownerOf partnerOf resolved retired retires retriesFit retriesInRange rule selectedFor setsApart settled settles settlingTold sidesNeeded skipped soundBooks soundCodes soundFilters soundLine soundLines soundMarks soundSplits soundTable soundVersion standingOf step unawaited unfit unready unsound used wellFormed windowMarked windowRuns windowSpent windowTurned withOctal withUsed member maskOf meet size examples listing slips dueDates
+unfolding accepted acknowledged again anotherDue answered apart askedAgain askedFor broadcasts busy busyWith cancelled castInRange causeFits
+    classOf closeTo closed closingTold concurred creates currentFor early every exhausted filters fits fitsBits freshVersion full gridRule
+    heard inRange kindFits lineIn manages members moved newModified newWhole noneTwice notCurrent octal oldModified oldWhole oneEach opened
+    order ownCancel ownerOf partnerOf resolved retired retires retriesFit retriesInRange rule selectedFor setsApart settled settles
+    settlingTold sidesNeeded skipped soundBooks soundCodes soundFilters soundLine soundLines soundMarks soundSplits soundTable soundVersion
+    standingOf step unawaited unfit unready unsound used wellFormed windowMarked windowRuns windowSpent windowTurned withOctal withUsed
+    member maskOf meet size examples listing slips dueDates
 computed = (refl, refl, refl, refl)
 
 pub worked-examples : allPass examples ≡ true
@@ -335,7 +354,13 @@ pub dates-shown : allPass dueDates ≡ true
 dates-shown = computed .3
 
 pub an-instance : Instance
-unfolding accepted acknowledged again anotherDue answered apart askedAgain askedFor broadcasts busy busyWith cancelled castInRange causeFits classOf closeTo closed closingTold concurred creates currentFor early every exhausted filters fits fitsBits freshVersion full gridRule heard inRange kindFits lineIn manages members moved newModified newWhole noneTwice notCurrent octal oldModified oldWhole oneEach opened order ownCancel ownerOf partnerOf resolved retired retires retriesFit retriesInRange rule selectedFor setsApart settled settles settlingTold sidesNeeded skipped soundBooks soundCodes soundFilters soundLine soundLines soundMarks soundSplits soundTable soundVersion standingOf step unawaited unfit unready unsound used wellFormed windowMarked windowRuns windowSpent windowTurned withOctal withUsed member maskOf meet size exchanged
+unfolding accepted acknowledged again anotherDue answered apart askedAgain askedFor broadcasts busy busyWith cancelled castInRange causeFits
+    classOf closeTo closed closingTold concurred creates currentFor early every exhausted filters fits fitsBits freshVersion full gridRule
+    heard inRange kindFits lineIn manages members moved newModified newWhole noneTwice notCurrent octal oldModified oldWhole oneEach opened
+    order ownCancel ownerOf partnerOf resolved retired retires retriesFit retriesInRange rule selectedFor setsApart settled settles
+    settlingTold sidesNeeded skipped soundBooks soundCodes soundFilters soundLine soundLines soundMarks soundSplits soundTable soundVersion
+    standingOf step unawaited unfit unready unsound used wellFormed windowMarked windowRuns windowSpent windowTurned withOctal withUsed
+    member maskOf meet size exchanged
 an-instance = record {
   premises = record { sound = refl; free = omega arith; formed = with refl (with refl (with refl none)) };
   may = (

@@ -71,8 +71,8 @@ underCode c tn = c * 10000 + tn % 10000
 abbrev pub smaller : ℕ → ℕ → ℕ
 smaller a b = cond (leb a b) a b
 
--- Two TNs that differ only by the two codes of a split pair name one line: the line of a TN is the TN, or in a pair the TN under the smaller code.
--- [A3.1]
+-- Two TNs that differ only by the two codes of a split pair name one line: the line of a TN is the TN, or in a pair the TN under the
+-- smaller code. [A3.1]
 unfoldable pub lineIn : List Split → ℕ → ℕ
 lineIn xs tn =
     cond (eqb (partnerIn (tn / 10000) xs) 0) tn (underCode (smaller (tn / 10000) (partnerIn (tn / 10000) xs)) tn)

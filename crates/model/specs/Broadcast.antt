@@ -24,7 +24,8 @@ resends e = eqb (e .kind) kind.resend
 
 -- 5, 9, 10 take purpose activate, modify, disconnect; 14 keeps the purpose. [D2, D3]
 abbrev pub purposeFor : Event → Version → ℕ
-purposeFor e v = cond (resends e) (v .cast .purpose) (cond (eqb (e .kind) kind.activate) activate (cond (eqb (e .kind) kind.modifyActive) modify disconnect))
+purposeFor e v = cond (resends e) (v .cast .purpose)
+    (cond (eqb (e .kind) kind.activate) activate (cond (eqb (e .kind) kind.modifyActive) modify disconnect))
 
 -- 5, 9, 10 ask all selected systems; 14 asks those failed that are selected now. [D2, D3]
 unfoldable pub askedFor : ℕ → Event → Version → ℕ
@@ -34,8 +35,8 @@ askedFor selected e v = cond (resends e) (meet (v .cast .failed) selected) selec
 abbrev pub newFor : Event → Version → NewSide
 newFor e v = cond (eqb (e .kind) kind.modifyActive) (rerouted (v .new) (e .lrn) (v .new .due)) (v .new)
 
--- The status becomes sending, the start the event's time; 5, 9, 10 clear confirmed and failed, 14 keeps confirmed, and who is not asked leaves the
--- failed set; retries start at 0. [D1, D2, D3, D4]
+-- The status becomes sending, the start the event's time; 5, 9, 10 clear confirmed and failed, 14 keeps confirmed, and who is not asked
+-- leaves the failed set; retries start at 0. [D1, D2, D3, D4]
 unfoldable pub opened : ℕ → Event → Version → Version
 opened selected e v = recast v sending (e .time) (v .live) (newFor e v) (record {
   purpose = purposeFor e v;

@@ -6,7 +6,8 @@ use mathlib.Core.List.{List, [], _∷_}
 use lib.Dec.{eqb}
 use Rattle.model.specs.Record.{isCreate, isAnswer}
 use Rattle.model.specs.declared.Outcome.{Outcome}
-use Rattle.model.specs.declared.Outcome.the-variants.{Done, Unsound, Malformed, Absent, Unlisted, Unknown, Standless, Misplaced, Early, Unfit, Busy, Unawaited, NotCurrent, Full, Exhausted, AnotherDue}
+use Rattle.model.specs.declared.Outcome.the-variants.{Done, Unsound, Malformed, Absent, Unlisted, Unknown, Standless, Misplaced}
+use Rattle.model.specs.declared.Outcome.the-variants.{Early, Unfit, Busy, Unawaited, NotCurrent, Full, Exhausted, AnotherDue}
 
 -- the paper's number of each outcome [H7, O10, A4.2]
 abbrev pub numberOf : Outcome → ℕ

@@ -55,7 +55,8 @@ results mark = eqb mark yes || eqb mark no
 -- 1: sender, other = old, LRN, due
 abbrev pub newCreates : Event → Bool
 newCreates e =
-    twoSides (e .sender) (e .other) && unused (e .mark) && unused (e .cause) && tenDigits (e .lrn .0) && unused (e .version) && named (e .due)
+    twoSides (e .sender) (e .other) && unused (e .mark) && unused (e .cause) && tenDigits (e .lrn .0)
+    && unused (e .version) && named (e .due)
 
 -- 2: sender, other = new, authorization, cause, due
 abbrev pub oldCreates : Event → Bool

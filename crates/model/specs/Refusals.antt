@@ -18,7 +18,8 @@ use Rattle.model.specs.Answers.{awaited}
 use Rattle.model.specs.declared.Event.{Event}
 use Rattle.model.specs.declared.Version.{Version}
 use Rattle.model.specs.declared.Outcome.{Outcome}
-use Rattle.model.specs.declared.Outcome.the-variants.{Done, Unsound, Malformed, Absent, Unlisted, Unknown, Standless, Misplaced, Early, Unfit, Busy, Unawaited, NotCurrent, Full, Exhausted, AnotherDue}
+use Rattle.model.specs.declared.Outcome.the-variants.{Done, Unsound, Malformed, Absent, Unlisted, Unknown, Standless, Misplaced}
+use Rattle.model.specs.declared.Outcome.the-variants.{Early, Unfit, Busy, Unawaited, NotCurrent, Full, Exhausted, AnotherDue}
 
 -- Sender or other is not 0 and not present. [O3]
 abbrev pub missing : Books → ℕ → Bool
@@ -31,8 +32,8 @@ absent bk e = missing bk (e .sender) || missing bk (e .other)
 abbrev pub unlisted : Books → Event → Bool
 unlisted bk e = eqb (ownerOf bk (codeOf (e .tn))) 0
 
--- Too early. Kinds 11, 12: time before the broadcast start. [R1] Others: time before the largest stamp of any version of the TN; for activation
--- also before the new due date. [R2]
+-- Too early. Kinds 11, 12: time before the broadcast start. [R1] Others: time before the largest stamp of any version of the TN; for
+-- activation also before the new due date. [R2]
 abbrev pub beforeStart : Event → Version → Bool
 beforeStart e v = ltb (e .time) (v .cast .start)
 
@@ -44,8 +45,8 @@ early g =
     cond (isAnswer (g .event .kind)) (holds (found g) (beforeStart (g .event)))
     (ltb (g .event .time) (lastStamp (g .rows)) || holds (found g) (beforeDue (g .event)))
 
--- Busy. Creates: a sending version of the TN. Kinds 5, 9, 10, 14: another version of it is sending. 14 on failed: a newer version exists. 15: the
--- newest version. [Q1]
+-- Busy. Creates: a sending version of the TN. Kinds 5, 9, 10, 14: another version of it is sending. 14 on failed: a newer version exists.
+-- 15: the newest version. [Q1]
 unfoldable pub busyWith : Event → List Version → List Version → Version → Bool
 busyWith e r others v =
     cond (isBroadcast (e .kind))

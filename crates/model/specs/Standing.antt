@@ -75,8 +75,8 @@ kindAt j = cond (ltb j 8) (j + 3) (j + 5)
 unfoldable pub gridRule : ℕ → ℕ → ℕ → ℕ
 gridRule s k w = cond (standsFor k w) (cond (statusFor k s) 0 7) 6
 
--- The finer conditions that add 7: 5 where neither the old side has created nor its window ran out; 9 and 10 where failed is not empty; 14 on
--- active where failed is empty. [G3]
+-- The finer conditions that add 7: 5 where neither the old side has created nor its window ran out; 9 and 10 where failed is not empty; 14
+-- on active where failed is empty. [G3]
 unfoldable pub unready : Event → Version → Bool
 unready e v =
     cond (eqb (e .kind) kind.activate) (not (v .old .created || v .window))

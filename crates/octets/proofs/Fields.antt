@@ -53,7 +53,8 @@ cut-join-above (w ∷ ws) (f ∷ fs) e a =
     ∙ ap (λ (l : List ℕ). f ∷ l) (cut-join-above ws fs (and-r (ltb f (2 ^ w)) (fit ws fs) e) (a * 2 ^ w + f))
 
 pub cut-join : (ws fs : List ℕ) → fit ws fs ≡ true → cut ws (join ws fs) ≡ fs
-cut-join ws fs e = ap (cut ws) (sym (ap (λ (k : ℕ). k + join ws fs) (zero-mul (2 ^ total ws)) ∙ zero-add (join ws fs))) ∙ cut-join-above ws fs e 0
+cut-join ws fs e = ap (cut ws) (sym (ap (λ (k : ℕ). k + join ws fs) (zero-mul (2 ^ total ws)) ∙ zero-add (join ws fs)))
+    ∙ cut-join-above ws fs e 0
 
 pub fit-at : (ws fs : List ℕ) → fit ws fs ≡ true → (i : ℕ) → getD fs i 0 < 2 ^ getD ws i 0
 fit-at [] [] e i = zero-lt-suc 0

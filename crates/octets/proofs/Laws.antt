@@ -3,7 +3,8 @@
 use mathlib.Core.Path.{_≡_, refl, sym, ap, _∙_}
 use mathlib.Core.List.{List, [], _∷_, _++_, append-assoc, append-nil}
 use Prim.Native.Nat.{ℕ, zero, suc, _+_, _-_, _*_, _/_, _%_, _^_, _<_, _≤_}
-use native.Mathlib.Nat.{add-zero, add-suc, pow-suc, le-add-right, mod-lt, lt-of-lt-of-le, le-refl, zero-lt-suc, pow-le-pow-right, mul-one, add-mul, mul-assoc, add-assoc, div-lt-iff-lt-mul}
+use native.Mathlib.Nat.{add-zero, add-suc, pow-suc, le-add-right, mod-lt, lt-of-lt-of-le, le-refl, zero-lt-suc, pow-le-pow-right, mul-one}
+use native.Mathlib.Nat.{add-mul, mul-assoc, add-assoc, div-lt-iff-lt-mul}
 use native.Mathlib.Omega.{arith}
 use lib.ListN.{length, getD, take, drop, set, length-set, length-append, length-drop, take-append-drop}
 use lib.Seq.{take-suc, drop-cons, getD-set-same, take-set-le, drop-set-lt, getD-at, getD-drop, take-at, drop-append-add}
@@ -20,7 +21,8 @@ be-lt xs h (suc n) at = rw pow-suc (digits-lt (be-lt xs h n at) (h (at + n)))
 pub length-digits : (n v : ℕ) → length (digits n v) ≡ n
 unfolding digits
 length-digits zero v = refl
-length-digits (suc n) v = length-append (digits n (v / 256)) (v % 256 ∷ []) ∙ ap (λ (k : ℕ). k + 1) (length-digits n (v / 256)) ∙ add-suc n 0 ∙ ap suc (add-zero n)
+length-digits (suc n) v = length-append (digits n (v / 256)) (v % 256 ∷ []) ∙ ap (λ (k : ℕ). k + 1) (length-digits n (v / 256))
+    ∙ add-suc n 0 ∙ ap suc (add-zero n)
 
 pow-positive : (n : ℕ) → zero < 256 ^ n
 pow-positive zero = zero-lt-suc 0
@@ -65,7 +67,9 @@ puts (suc n) xs at v = puts n (set xs (at + n) (v % 256)) at (v / 256)
 
 pub puts-put : (n : ℕ) (xs : List ℕ) (at v : ℕ) → at + n ≤ length xs → puts n xs at v ≡ put n xs at v
 unfolding puts put digits
-puts-put zero xs at v l = sym (ap (λ (k : ℕ). take at xs ++ [] ++ drop k xs) (add-zero at) ∙ ap (λ (r : List ℕ). r ++ drop at xs) (append-nil (take at xs)) ∙ take-append-drop at xs)
+puts-put zero xs at v l =
+    sym (ap (λ (k : ℕ). take at xs ++ [] ++ drop k xs) (add-zero at) ∙ ap (λ (r : List ℕ). r ++ drop at xs) (append-nil (take at xs))
+    ∙ take-append-drop at xs)
 puts-put (suc n) xs at v l =
     let b : ℕ = v % 256 in
     let ys : List ℕ = set xs (at + n) b in
@@ -78,7 +82,8 @@ puts-put (suc n) xs at v l =
     ∙ ap (λ (t : List ℕ). take at xs ++ d ++ t)
     (drop-cons ys (at + n) 0 j
     ∙ ap (λ (k : ℕ). k ∷ drop (suc (at + n)) ys) (getD-set-same xs (at + n) b 0 i)
-    ∙ ap (λ (t : List ℕ). b ∷ t) (drop-set-lt (suc (at + n)) xs (at + n) b (le-refl (suc (at + n))) ∙ ap (λ (k : ℕ). drop k xs) (sym (add-suc at n))))
+    ∙ ap (λ (t : List ℕ). b ∷ t) (drop-set-lt (suc (at + n)) xs (at + n) b (le-refl (suc (at + n)))
+    ∙ ap (λ (k : ℕ). drop k xs) (sym (add-suc at n))))
     ∙ sym (regroup (take at xs) d b (drop (at + suc n) xs))
 
 -- up to 8 bytes fit a u64
@@ -134,4 +139,5 @@ one-byte b h (suc i) = zero-lt-suc 255
 pub bytes-digits : (n v : ℕ) → Bytes (digits n v)
 unfolding digits
 bytes-digits zero v i = zero-lt-suc 255
-bytes-digits (suc n) v i = bytes-append (digits n (v / 256)) (v % 256 ∷ []) (bytes-digits n (v / 256)) (one-byte (v % 256) (mod-lt v (zero-lt-suc 255))) i
+bytes-digits (suc n) v i =
+    bytes-append (digits n (v / 256)) (v % 256 ∷ []) (bytes-digits n (v / 256)) (one-byte (v % 256) (mod-lt v (zero-lt-suc 255))) i

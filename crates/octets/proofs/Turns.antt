@@ -14,7 +14,8 @@ unfolding le
 byte-at xs h zero zero at k l = absurd (omega arith)
 byte-at xs h zero (suc m) at k l =
     let e : k ≡ k + 0 = omega arith in
-    ap (λ (i : ℕ). i % 256) (div-one (le m xs at (suc k) * 256 + getD xs (at + k) 0)) ∙ digits-mod (le m xs at (suc k)) (h (at + k)) ∙ ap (λ (i : ℕ). getD xs (at + i) 0) e
+    ap (λ (i : ℕ). i % 256) (div-one (le m xs at (suc k) * 256 + getD xs (at + k) 0)) ∙ digits-mod (le m xs at (suc k)) (h (at + k))
+    ∙ ap (λ (i : ℕ). getD xs (at + i) 0) e
 byte-at xs h (suc n) zero at k l = absurd (omega arith)
 byte-at xs h (suc n) (suc m) at k l =
     let v : ℕ = le m xs at (suc k) * 256 + getD xs (at + k) 0 in
@@ -51,4 +52,5 @@ pub summed-turned : (x : ℕ) → summed (x % 256) x ≡ turned 8 x
 unfolding turned
 summed-turned x =
     ap (λ (i : ℕ). summed (i % 256) x) (sym (div-one x))
-    ∙ halves (x / 1 % 256) (x / 256 % 256) (x / 65536 % 256) (x / 16777216 % 256) (x / 4294967296 % 256) (x / 1099511627776 % 256) (x / 281474976710656 % 256) (x / 72057594037927936 % 256)
+    ∙ halves (x / 1 % 256) (x / 256 % 256) (x / 65536 % 256) (x / 16777216 % 256) (x / 4294967296 % 256) (x / 1099511627776 % 256)
+    (x / 281474976710656 % 256) (x / 72057594037927936 % 256)

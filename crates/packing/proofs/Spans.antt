@@ -42,7 +42,8 @@ cut-high [] vs a b h = refl
 cut-high (w ∷ ws) vs a b h =
     let n : ℕ = a * 2 ^ total vs + b in
     ap (λ (k : ℕ). n / 2 ^ k % 2 ^ w ∷ cut (ws ++ vs) n) (total-append ws vs ∙ add-comm (total ws) (total vs))
-    ∙ ap (λ (m : ℕ). m % 2 ^ w ∷ cut (ws ++ vs) n) (sym (shr-shr n (total vs) (total ws)) ∙ ap (λ (m : ℕ). m / 2 ^ total ws) (high a (total vs) h))
+    ∙ ap (λ (m : ℕ). m % 2 ^ w ∷ cut (ws ++ vs) n)
+    (sym (shr-shr n (total vs) (total ws)) ∙ ap (λ (m : ℕ). m / 2 ^ total ws) (high a (total vs) h))
     ∙ ap (λ (fs : List ℕ). a / 2 ^ total ws % 2 ^ w ∷ fs) (cut-high ws vs a b h)
 
 pub cut-append : (ws vs : List ℕ) (a b : ℕ) → b < 2 ^ total vs → cut (ws ++ vs) (a * 2 ^ total vs + b) ≡ cut ws a ++ cut vs b
@@ -83,7 +84,8 @@ joined k s o m c t l v h w d = simp (add-mul, mul-assoc, add-assoc, add-zero, mu
 pub packed-joined : (e : Event) (a b c : ℕ) → Packed e a b c → words a b c ≡ join widths (fieldsOf e)
 packed-joined e a b c p =
     rw (p .first, p .second, p .third)
-    (joined (e .kind) (e .sender) (e .other) (e .mark) (e .cause) (e .tn .0) (e .lrn .0) (e .version) (e .time / 2 ^ 18) (e .time % 2 ^ 18) (e .due)
+    (joined (e .kind) (e .sender) (e .other) (e .mark) (e .cause) (e .tn .0) (e .lrn .0) (e .version) (e .time / 2 ^ 18)
+    (e .time % 2 ^ 18) (e .due)
     ∙ ap
     (λ (t : ℕ). join widths (e .kind ∷ e .sender ∷ e .other ∷ e .mark ∷ e .cause ∷ e .tn .0 ∷ e .lrn .0 ∷ e .version ∷ t ∷ e .due ∷ 0 ∷ []))
     (div-add-mod' (e .time) (2 ^ 18)))

@@ -26,7 +26,8 @@ unfolding bytesOf digits
 create-writes = refl
 
 -- the last spare bit is set
-spare-bit : readEvent (1 ∷ 8 ∷ 16 ∷ 0 ∷ 180 ∷ 238 ∷ 209 ∷ 148 ∷ 45 ∷ 59 ∷ 180 ∷ 76 ∷ 0 ∷ 0 ∷ 0 ∷ 0 ∷ 0 ∷ 2 ∷ 128 ∷ 0 ∷ 0 ∷ 25 ∷ 0 ∷ 1 ∷ []) ≡ Malformed
+spare-bit : readEvent (1 ∷ 8 ∷ 16 ∷ 0 ∷ 180 ∷ 238 ∷ 209 ∷ 148 ∷ 45 ∷ 59 ∷ 180 ∷ 76 ∷ 0 ∷ 0 ∷ 0 ∷ 0 ∷ 0 ∷ 2 ∷ 128 ∷ 0 ∷ 0 ∷ 25 ∷ 0 ∷ 1 ∷ [])
+    ≡ Malformed
 unfolding readEvent readFields wellFormed fitsBits kindFits be
 spare-bit = refl
 

@@ -13,8 +13,8 @@ use Rattle.model.specs.declared.Reading.{Reading}
 use Rattle.model.specs.declared.Reading.the-variants.{Record, Malformed}
 use Rattle.model.specs.Record.{wellFormed}
 
--- Packed most significant bit first: kind 8 bits, sender 6, other 6, authorization or result 2, cause 8, TN 34, LRN 34, version 16, time 32,
--- due 32, spare 14. [E1]
+-- Packed most significant bit first: kind 8 bits, sender 6, other 6, authorization or result 2, cause 8, TN 34, LRN 34, version 16, time
+-- 32, due 32, spare 14. [E1]
 abbrev pub widths : List ℕ
 widths = 8 ∷ 6 ∷ 6 ∷ 2 ∷ 8 ∷ 34 ∷ 34 ∷ 16 ∷ 32 ∷ 32 ∷ 14 ∷ []
 

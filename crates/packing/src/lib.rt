@@ -5,7 +5,7 @@ use model::Event;
 use model::Lrn;
 use model::Tn;
 
-pub struct Words {
+pub struct RecordWords {
     pub first: u64,
     pub second: u64,
     pub third: u64,
@@ -30,7 +30,7 @@ pub fn unpack(first: u64, second: u64, third: u64) -> Event
     }
 }
 
-pub fn pack(e: Event) -> Words
+pub fn pack(e: Event) -> RecordWords
     requires { ⌜ Fitted e ⌝ }
     ensures { λ r. ⌜ Packed e (r .first) (r .second) (r .third) ⌝ }
 {
@@ -39,7 +39,7 @@ pub fn pack(e: Event) -> Words
     // The third word first: after more reads of fields the range of due is out of the prover's reach.
     let third = ((t % 262144) * 4294967296 + d) * 16384;
     let head = (((e.kind as u64) * 64 + e.sender as u64) * 64 + e.other as u64) * 4 + e.mark as u64;
-    Words {
+    RecordWords {
         first: (head * 256 + e.cause as u64) * 0x4_0000_0000 + e.tn.0,
         second: (e.lrn.0 * 65536 + e.version as u64) * 16384 + t / 262144,
         third,

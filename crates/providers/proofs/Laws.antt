@@ -43,7 +43,8 @@ mark-step f n on e = rw (← e) (go on)
     put : bitOr (maskOf f n) (2 ^ (n + 1)) ≡ maskOf f n + 2 ^ suc n
     put =
         let l : maskOf f n < 2 ^ (n + 1) = rw (add-one n) (mask-lt f n) in
-        ap (bitOr (maskOf f n)) (sym (one-mul (2 ^ (n + 1)))) ∙ or-shifted-r 1 (n + 1) (maskOf f n) l ∙ ap (λ (x : ℕ). x + maskOf f n) (one-mul (2 ^ (n + 1)) ∙ ap (λ (k : ℕ). 2 ^ k) (add-one n))
+        ap (bitOr (maskOf f n)) (sym (one-mul (2 ^ (n + 1)))) ∙ or-shifted-r 1 (n + 1) (maskOf f n) l
+        ∙ ap (λ (x : ℕ). x + maskOf f n) (one-mul (2 ^ (n + 1)) ∙ ap (λ (k : ℕ). 2 ^ k) (add-one n))
         ∙ add-comm (2 ^ suc n) (maskOf f n)
 
     go : (b : Bool) → cond b (bitOr (maskOf f n) (2 ^ (n + 1))) (maskOf f n) ≡ maskOf f n + cond b (2 ^ suc n) 0
@@ -69,13 +70,15 @@ abbrev soundTo : List Provider → ℕ → Bool
 soundTo l n = leb n 63 && all fine (take n l)
 
 -- one record more
-sound-more : (l : List Provider) (n : ℕ) → n < length l → soundTo l (suc n) ≡ (soundTo l n && ltb n 63 && (getD l n absent .present || not (getD l n absent .local)))
+sound-more : (l : List Provider) (n : ℕ) → n < length l
+    → soundTo l (suc n) ≡ (soundTo l n && ltb n 63 && (getD l n absent .present || not (getD l n absent .local)))
 sound-more l n h =
     ap (λ (xs : List Provider). leb (suc n) 63 && all fine xs) (take-suc l n absent h)
     ∙ ap (λ (b : Bool). leb (suc n) 63 && b) (all-append fine (take n l) (getD l n absent))
     ∙ go (ltb n 63) refl (all fine (take n l)) ∙ ap (λ (b : Bool). soundTo l n && ltb n 63 && b) (fine-or (getD l n absent))
   where
-    go : (b : Bool) → ltb n 63 ≡ b → (a : Bool) → (leb (suc n) 63 && (a && fine (getD l n absent))) ≡ (leb n 63 && a && ltb n 63 && fine (getD l n absent))
+    go : (b : Bool) → ltb n 63 ≡ b → (a : Bool) → (leb (suc n) 63 && (a && fine (getD l n absent)))
+        ≡ (leb n 63 && a && ltb n 63 && fine (getD l n absent))
     go true e a =
         let h : n < 63 = ltb-true n 63 e in
         let k : suc n ≤ 63 = omega arith in
@@ -96,7 +99,8 @@ sound-more l n h =
 
 -- what the first n records say, as a whole
 abbrev partly : List Provider → ℕ → Listed
-partly l n = cond (soundTo l n) (record { sound = true; marks = record { present = maskOf (presentAt l) n; local = maskOf (localAt l) n } }) unsound
+partly l n = cond (soundTo l n) (record { sound = true; marks = record { present = maskOf (presentAt l) n; local = maskOf (localAt l) n } })
+    unsound
 
 listed-partly : (l : List Provider) (n : ℕ) → n ≤ length l → listedTo l n ≡ partly l n
 unfolding listedTo maskOf
@@ -105,12 +109,18 @@ listed-partly l (suc n) h =
     let k : n < length l = omega arith in
     ap (λ (z : Listed). grownBy z (getD l n absent) n) (listed-partly l n (omega arith))
     ∙ go (soundTo l n)
-    ∙ ap (λ (b : Bool). cond b (record { sound = true; marks = record { present = maskOf (presentAt l) (suc n); local = maskOf (localAt l) (suc n) } }) unsound) (sym (sound-more l n k))
+    ∙ ap (λ (b : Bool). cond b
+    (record { sound = true; marks = record { present = maskOf (presentAt l) (suc n); local = maskOf (localAt l) (suc n) } }) unsound)
+    (sym (sound-more l n k))
   where
-    go : (b : Bool) → grownBy (cond b (record { sound = true; marks = record { present = maskOf (presentAt l) n; local = maskOf (localAt l) n } }) unsound) (getD l n absent) n
-        ≡ cond (b && ltb n 63 && (getD l n absent .present || not (getD l n absent .local))) (record { sound = true; marks = record { present = maskOf (presentAt l) (suc n); local = maskOf (localAt l) (suc n) } }) unsound
+    go : (b : Bool) → grownBy
+        (cond b (record { sound = true; marks = record { present = maskOf (presentAt l) n; local = maskOf (localAt l) n } }) unsound)
+        (getD l n absent) n
+        ≡ cond (b && ltb n 63 && (getD l n absent .present || not (getD l n absent .local)))
+        (record { sound = true; marks = record { present = maskOf (presentAt l) (suc n); local = maskOf (localAt l) (suc n) } }) unsound
     go true =
-        ap₂ (λ (p q : ℕ). cond (ltb n 63 && (getD l n absent .present || not (getD l n absent .local))) (record { sound = true; marks = record { present = p; local = q } }) unsound)
+        ap₂ (λ (p q : ℕ). cond (ltb n 63 && (getD l n absent .present || not (getD l n absent .local)))
+        (record { sound = true; marks = record { present = p; local = q } }) unsound)
         (mark-step (presentAt l) n (getD l n absent .present) (ap (λ (k : ℕ). getD l k absent .present) (omega arith)))
         (mark-step (localAt l) n (getD l n absent .local) (ap (λ (k : ℕ). getD l k absent .local) (omega arith)))
     go false = refl
@@ -121,7 +131,8 @@ listed-partly l (suc n) h =
 pub mask-beyond : (f : ℕ → Bool) (n m : ℕ) → n ≤ m → ((p : ℕ) → n < p → f p ≡ false) → maskOf f n ≡ maskOf f m
 unfolding maskOf
 mask-beyond f n m l h =
-    le-ind (λ (k : ℕ). maskOf f n ≡ maskOf f k) refl (λ k x e. e ∙ sym (ap (λ (b : Bool). maskOf f k + cond b (2 ^ suc k) 0) (h (suc k) (omega arith)) ∙ add-zero (maskOf f k))) m l
+    le-ind (λ (k : ℕ). maskOf f n ≡ maskOf f k) refl
+    (λ k x e. e ∙ sym (ap (λ (b : Bool). maskOf f k + cond b (2 ^ suc k) 0) (h (suc k) (omega arith)) ∙ add-zero (maskOf f k))) m l
 
 beyond : (l : List Provider) (p : ℕ) → length l < p → getD l (p - 1) absent ≡ absent
 beyond l p h = List·getD-eq-default l absent (omega arith)
@@ -131,11 +142,15 @@ pub listed-all : (l : List Provider) (n : ℕ) → n ≡ length l → listedTo l
 unfolding listed
 listed-all l n e =
     ap (listedTo l) e ∙ listed-partly l (length l) (le-refl (length l))
-    ∙ ap (λ (xs : List Provider). cond (leb (length l) 63 && all fine xs) (record { sound = true; marks = record { present = maskOf (presentAt l) (length l); local = maskOf (localAt l) (length l) } }) unsound) (take-length l)
+    ∙ ap (λ (xs : List Provider). cond (leb (length l) 63 && all fine xs)
+    (record { sound = true; marks = record { present = maskOf (presentAt l) (length l); local = maskOf (localAt l) (length l) } })
+    unsound) (take-length l)
     ∙ go (leb (length l) 63) refl
   where
     go : (b : Bool) → leb (length l) 63 ≡ b
-        → cond (b && all fine l) (record { sound = true; marks = record { present = maskOf (presentAt l) (length l); local = maskOf (localAt l) (length l) } }) unsound ≡ cond (b && all fine l) (record { sound = true; marks = marksOf l }) unsound
+        → cond (b && all fine l)
+        (record { sound = true; marks = record { present = maskOf (presentAt l) (length l); local = maskOf (localAt l) (length l) } })
+        unsound ≡ cond (b && all fine l) (record { sound = true; marks = marksOf l }) unsound
     go true h =
         ap₂ (λ (p q : ℕ). cond (all fine l) (record { sound = true; marks = record { present = p; local = q } }) unsound)
         (mask-beyond (presentAt l) (length l) 63 (leb-true (length l) 63 h) (λ p k. ap (λ (x : Provider). x .present) (beyond l p k)))
@@ -143,10 +158,12 @@ listed-all l n e =
     go false h = refl
 
 -- a turn of the reader of bytes
-pub bytes-more : (bs : List ℕ) (i : ℕ) (l r : Listed) (x : Provider) → l ≡ listedTo (map entryOf bs) i → x ≡ entryOf (getD bs i 0) → r ≡ grownBy l x i
+pub bytes-more : (bs : List ℕ) (i : ℕ) (l r : Listed) (x : Provider) → l ≡ listedTo (map entryOf bs) i → x ≡ entryOf (getD bs i 0)
+    → r ≡ grownBy l x i
     → r ≡ listedTo (map entryOf bs) (i + 1)
 bytes-more bs i l r x hl hx hr =
-    hr ∙ ap₂ (λ (a : Listed) (b : Provider). grownBy a b i) hl (hx ∙ sym (List·getD-map entryOf bs i 0)) ∙ sym (listed-more (map entryOf bs) i)
+    hr ∙ ap₂ (λ (a : Listed) (b : Provider). grownBy a b i) hl (hx ∙ sym (List·getD-map entryOf bs i 0))
+    ∙ sym (listed-more (map entryOf bs) i)
 
 -- a record is added at a place that a provider has
 pub in-room : (sound : Bool) (x : Provider) (i : ℕ) (r : Bool) → r ≡ addsTo sound x i → r ≡ true → i < 63
@@ -173,11 +190,13 @@ pub listed-sound : (l : List Provider) → soundMarks (listed l .marks) ≡ true
 unfolding listed soundMarks
 listed-sound l = go (leb (length l) 63) (all fine l) refl
   where
-    within : all fine l ≡ true → (p : ℕ) → 0 < p → p ≤ 63 → implies (member (maskOf (localAt l) 63) p) (member (maskOf (presentAt l) 63) p) ≡ true
+    within : all fine l ≡ true → (p : ℕ) → 0 < p → p ≤ 63
+        → implies (member (maskOf (localAt l) 63) p) (member (maskOf (presentAt l) 63) p) ≡ true
     within e p h k = rw (mask-member (localAt l) 63 p h k, mask-member (presentAt l) 63 p h k) (all-at l e (p - 1))
 
     go : (a b : Bool) → all fine l ≡ b → soundMarks (cond (a && b) (record { sound = true; marks = marksOf l }) unsound .marks) ≡ true
-    go true true e = ap₂ (λ (a b : Bool). a && b) (ap₂ (λ (a b : Bool). a && b) (set-mask (presentAt l)) (set-mask (localAt l))) (every-all _ 63 (within e))
+    go true true e = ap₂ (λ (a b : Bool). a && b) (ap₂ (λ (a b : Bool). a && b) (set-mask (presentAt l)) (set-mask (localAt l)))
+        (every-all _ 63 (within e))
     go true false e = nobody-sound
     go false b e = nobody-sound
 
@@ -196,7 +215,8 @@ unfolding listed
 listed-marks l e = ap (λ (b : Bool). cond b (record { sound = true; marks = marksOf l }) unsound .marks) e
 
 -- provider p is in the sets where its record, at place p - 1, has the marks
-pub listed-present : (l : List Provider) → soundList l ≡ true → (p : ℕ) → 0 < p → p ≤ 63 → member (listed l .marks .present) p ≡ presentAt l p
+pub listed-present : (l : List Provider) → soundList l ≡ true → (p : ℕ) → 0 < p → p ≤ 63
+    → member (listed l .marks .present) p ≡ presentAt l p
 listed-present l e p h k = ap (λ (m : Marks). member (m .present) p) (listed-marks l e) ∙ mask-member (presentAt l) 63 p h k
 
 pub listed-local : (l : List Provider) → soundList l ≡ true → (p : ℕ) → 0 < p → p ≤ 63 → member (listed l .marks .local) p ≡ localAt l p

@@ -63,7 +63,8 @@ stores xs a b c h hb hc =
     ∙ ap (λ (l : List ℕ). l ++ d c) (sym (digits-add 8 8 a b hb))
     ∙ sym (digits-add 16 8 (a * 2 ^ 64 + b) c hc)
 
-pub written : (e : Event) (xs ys zs us : List ℕ) (a b c : ℕ) → length xs ≡ 24 → wellFormed e ≡ true → Packed e a b c → b < 2 ^ 64 → c < 2 ^ 64
+pub written : (e : Event) (xs ys zs us : List ℕ) (a b c : ℕ) → length xs ≡ 24 → wellFormed e ≡ true → Packed e a b c
+    → b < 2 ^ 64 → c < 2 ^ 64
     → ys ≡ put 8 xs 0 a → zs ≡ put 8 ys 8 b → us ≡ put 8 zs 16 c → Written e xs us 0
 unfolding bytesOf
 written e xs ys zs us a b c h w j hb hc s1 s2 s3 =

@@ -9,12 +9,13 @@ use Rattle.systems.specs.Set.{member}
 use Rattle.model.specs.declared.Version.{Version}
 use Rattle.model.specs.Basics.{every}
 use Rattle.model.specs.Retries.{octal, used, noRetries}
-use Rattle.model.specs.Sound.{retriesInRange, castInRange, inRange, newWhole, oldWhole, sidesNeeded, causeFits, apart, setsApart, retriesFit, soundVersion}
+use Rattle.model.specs.Sound.{retriesInRange, castInRange, inRange, newWhole, oldWhole, sidesNeeded, causeFits, apart, setsApart}
+use Rattle.model.specs.Sound.{retriesFit, soundVersion}
 use Rattle.words.specs.Codec.{wordsIn, bytesOf}
 use Rattle.row.specs.Layout.{versionOf, wordsOf, pack, unpack}
 
--- TN 3035550100, number 1, active, live, both sides created, new provider 2, old provider 1, LRN 3035550000, authorization yes, purpose activate,
--- both dues 100, stamp 104, confirmed 1, 2 and 3
+-- TN 3035550100, number 1, active, live, both sides created, new provider 2, old provider 1, LRN 3035550000, authorization yes, purpose
+-- activate, both dues 100, stamp 104, confirmed 1, 2 and 3
 example : Version
 example = record {
   id = record { tn = record { 0 = 3035550100 }; number = 1 };
@@ -43,5 +44,6 @@ unfolding example bytes unpack versionOf wordsIn be
 unpacked = refl
 
 is-sound : soundVersion example ≡ true
-unfolding example soundVersion inRange castInRange retriesInRange newWhole oldWhole sidesNeeded causeFits setsApart apart retriesFit every used octal member
+unfolding example soundVersion inRange castInRange retriesInRange newWhole oldWhole sidesNeeded causeFits setsApart apart
+    retriesFit every used octal member
 is-sound = refl

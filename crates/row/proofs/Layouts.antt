@@ -13,7 +13,8 @@ use Rattle.octets.specs.Fields.{cut, join, fit}
 use Rattle.octets.proofs.Fields.{join-lt, join-cut, cut-join}
 use Rattle.model.specs.declared.Version.{Version}
 use Rattle.words.specs.declared.Words.{Words}
-use Rattle.row.specs.Layout.{headWidths, termWidths, pairWidths, flag, marked, field, versionOf, spareless, headFields, termFields, dueFields, timeFields, wordsOf, Room}
+use Rattle.row.specs.Layout.{headWidths, termWidths, pairWidths, flag, marked, field, versionOf, spareless, headFields, termFields}
+use Rattle.row.specs.Layout.{dueFields, timeFields, wordsOf, Room}
 use Rattle.model.proofs.Lists.{and-l, and-r}
 use Rattle.words.proofs.Spelling.{Fit64}
 
@@ -35,11 +36,29 @@ flag-lt false = refl
 module _ (v : Version) (r : Room v) where
   pub head-fits : fit headWidths (headFields v) ≡ true
   head-fits =
-      simp (lt-ltb (v .id .tn .0) 17179869184 (r .small .tn), lt-ltb (v .id .number) 65536 (r .number), lt-ltb (v .status) 16 (r .small .status), flag-lt (v .live), flag-lt (v .new .created), flag-lt (v .old .created), flag-lt (v .window))
+      simp (
+        lt-ltb (v .id .tn .0) 17179869184 (r .small .tn),
+        lt-ltb (v .id .number) 65536 (r .number),
+        lt-ltb (v .status) 16
+            (r .small .status),
+        flag-lt (v .live),
+        flag-lt (v .new .created),
+        flag-lt (v .old .created),
+        flag-lt (v .window),
+      )
 
   pub terms-fit : fit termWidths (termFields v) ≡ true
   terms-fit =
-      simp (lt-ltb (v .new .lrn .0) 17179869184 (r .small .lrn), lt-ltb (v .new .provider) 64 (r .small .new), lt-ltb (v .old .provider) 64 (r .small .old), lt-ltb (v .old .authorization) 4 (r .small .authorization), lt-ltb (v .old .cause) 128 (r .small .cause), lt-ltb (v .canceller) 4 (r .small .canceller), lt-ltb (v .cast .purpose) 4 (r .small .purpose))
+      simp (
+        lt-ltb (v .new .lrn .0) 17179869184 (r .small .lrn),
+        lt-ltb (v .new .provider) 64 (r .small .new),
+        lt-ltb (v .old .provider) 64
+            (r .small .old),
+        lt-ltb (v .old .authorization) 4 (r .small .authorization),
+        lt-ltb (v .old .cause) 128 (r .small .cause),
+        lt-ltb (v .canceller) 4 (r .small .canceller),
+        lt-ltb (v .cast .purpose) 4 (r .small .purpose),
+      )
 
   dues-fit : fit pairWidths (dueFields v) ≡ true
   dues-fit = simp (lt-ltb (v .new .due) 4294967296 (r .newDue), lt-ltb (v .old .due) 4294967296 (r .oldDue))
@@ -101,7 +120,8 @@ module _ (w : Words) (f : Fit64 w) (s : spareless w ≡ true) where
   head-fields : headFields (versionOf w) ≡ cut headWidths (w .head)
   unfolding versionOf spareless
   head-fields =
-      let z : field headWidths 7 (w .head) ≡ 0 = eqb-true _ _ (and-l (eqb (field headWidths 7 (w .head)) 0) (eqb (field termWidths 7 (w .terms)) 0) s) in
+      let z : field headWidths 7 (w .head) ≡ 0 =
+      eqb-true _ _ (and-l (eqb (field headWidths 7 (w .head)) 0) (eqb (field termWidths 7 (w .terms)) 0) s) in
       let b : (k : ℕ) → flag (marked (k % 2)) ≡ k % 2 = λ k. flag-marked (k % 2) (mod-lt k (lit< tt)) in
       λ i.
       w .head / 2 ^ 30 % 2 ^ 34 ∷ w .head / 2 ^ 14 % 2 ^ 16 ∷ w .head / 2 ^ 10 % 2 ^ 4 ∷ b (w .head / 2 ^ 9) i ∷ b (w .head / 2 ^ 8) i
@@ -110,9 +130,11 @@ module _ (w : Words) (f : Fit64 w) (s : spareless w ≡ true) where
   term-fields : termFields (versionOf w) ≡ cut termWidths (w .terms)
   unfolding versionOf spareless
   term-fields =
-      let z : field termWidths 7 (w .terms) ≡ 0 = eqb-true _ _ (and-r (eqb (field headWidths 7 (w .head)) 0) (eqb (field termWidths 7 (w .terms)) 0) s) in
+      let z : field termWidths 7 (w .terms) ≡ 0 =
+      eqb-true _ _ (and-r (eqb (field headWidths 7 (w .head)) 0) (eqb (field termWidths 7 (w .terms)) 0) s) in
       λ i.
-      w .terms / 2 ^ 30 % 2 ^ 34 ∷ w .terms / 2 ^ 24 % 2 ^ 6 ∷ w .terms / 2 ^ 18 % 2 ^ 6 ∷ w .terms / 2 ^ 16 % 2 ^ 2 ∷ w .terms / 2 ^ 9 % 2 ^ 7
+      w .terms / 2 ^ 30 % 2 ^ 34 ∷ w .terms / 2 ^ 24 % 2 ^ 6 ∷ w .terms / 2 ^ 18 % 2 ^ 6 ∷ w .terms / 2 ^ 16 % 2 ^ 2
+      ∷ w .terms / 2 ^ 9 % 2 ^ 7
       ∷ w .terms / 2 ^ 7 % 2 ^ 2 ∷ w .terms / 2 ^ 5 % 2 ^ 2 ∷ sym z i ∷ []
 
   pub words-version : wordsOf (versionOf w) ≡ w

@@ -18,7 +18,8 @@ use Rattle.model.proofs.Lists.{conj-at}
 use Rattle.words.specs.declared.Words.{Words}
 use Rattle.words.specs.Size.{ROW}
 use Rattle.words.specs.Codec.{wordsIn, firstOf, lastOf, bytesOf, isBlank, noWords, blank}
-use Rattle.row.specs.Layout.{headWidths, termWidths, field, versionOf, spareless, headFields, termFields, wordsOf, Room, keyOf, pack, unpack}
+use Rattle.row.specs.Layout.{headWidths, termWidths, field, versionOf, spareless, headFields, termFields, wordsOf, Room, keyOf, pack}
+use Rattle.row.specs.Layout.{unpack}
 use Rattle.words.proofs.Spelling.{bytes-length, words-bytes, bytes-words, words-fit, none-blank, blank-none}
 use Rattle.row.proofs.Layouts.{head-fits, terms-fit, room-fits, version-words, words-version}
 use Rattle.row.proofs.Rooms.{sound-room, sound-tn}
@@ -46,8 +47,10 @@ one-form v w r s e = sym (unpack-pack v r) ∙ ap unpack e ∙ unpack-pack w s
 pub pack-spareless : (v : Version) → Room v → spareless (wordsIn (pack v)) ≡ true
 unfolding spareless wordsOf
 pack-spareless v r =
-    let h : field headWidths 7 (join headWidths (headFields v)) ≡ 0 = ap (λ (l : List ℕ). getD l 7 0) (cut-join headWidths (headFields v) (head-fits v r)) in
-    let t : field termWidths 7 (join termWidths (termFields v)) ≡ 0 = ap (λ (l : List ℕ). getD l 7 0) (cut-join termWidths (termFields v) (terms-fit v r)) in
+    let h : field headWidths 7 (join headWidths (headFields v)) ≡ 0 =
+    ap (λ (l : List ℕ). getD l 7 0) (cut-join headWidths (headFields v) (head-fits v r)) in
+    let t : field termWidths 7 (join termWidths (termFields v)) ≡ 0 =
+    ap (λ (l : List ℕ). getD l 7 0) (cut-join termWidths (termFields v) (terms-fit v r)) in
     ap spareless (words-pack v r) ∙ rw (eq-eqb _ 0 h, eq-eqb _ 0 t)
 
 -- ---- free rows
@@ -56,7 +59,8 @@ pack-spareless v r =
 pub blank-is : (w : Words) → isBlank w ≡ true → w ≡ noWords
 unfolding isBlank
 blank-is w e =
-    let z : (i : ℕ) → getD (map (λ (x : ℕ). eqb x 0) (firstOf w ++ lastOf w)) i true ≡ true = conj-at (map (λ (x : ℕ). eqb x 0) (firstOf w ++ lastOf w)) e in
+    let z : (i : ℕ) → getD (map (λ (x : ℕ). eqb x 0) (firstOf w ++ lastOf w)) i true ≡ true =
+    conj-at (map (λ (x : ℕ). eqb x 0) (firstOf w ++ lastOf w)) e in
     λ i. record {
       head = eqb-true (w .head) 0 (z 0) i;
       terms = eqb-true (w .terms) 0 (z 1) i;

@@ -70,7 +70,8 @@ old-room s e =
     chosen (s .created) (isTime (s .due) && among (s .authorization) (yes ∷ no ∷ [])) (eqb (s .due) 0 && eqb (s .authorization) 0) e
     (λ x. (
       time-lt (s .due) (and-l (isTime (s .due)) (among (s .authorization) (yes ∷ no ∷ [])) x),
-      authorized (s .authorization) (eqb (s .authorization) yes) refl (and-r (isTime (s .due)) (among (s .authorization) (yes ∷ no ∷ [])) x),
+      authorized (s .authorization) (eqb (s .authorization) yes) refl
+          (and-r (isTime (s .due)) (among (s .authorization) (yes ∷ no ∷ [])) x),
     ))
     (λ x. (
       zero-lt (s .due) 4294967296 (omega arith) (and-l (eqb (s .due) 0) (eqb (s .authorization) 0) x),

@@ -12,7 +12,8 @@ ghost use mathlib.Core.Path.{_≡_};
 ghost use mathlib.Core.List.{[], _∷_};
 ghost use Prim.Native.Nat.{_<_};
 ghost use Rattle.octets.specs.Fields.{join};
-ghost use Rattle.row.specs.Layout.{headWidths, termWidths, pairWidths, flag, idOf, newOf, oldOf, castOf, versionOf, spareless, headFields, termFields, wordsOf, InBits};
+ghost use Rattle.row.specs.Layout.{headWidths, termWidths, pairWidths, flag, idOf, newOf, oldOf, castOf, versionOf, spareless};
+ghost use Rattle.row.specs.Layout.{headFields, termFields, wordsOf, InBits};
 
 fn id_of(w: Words) -> Id
     ensures { λ r. ⌜ r ≡ idOf w ⌝ }

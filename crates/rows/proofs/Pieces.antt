@@ -80,7 +80,8 @@ module _ (R : ℕ) where
   joined-chunks (c ∷ cs) h =
       ap₂ (λ (x : List ℕ) (xs : List (List ℕ)). x ∷ xs)
       (ap (λ (k : ℕ). take k (c ++ joined cs)) (sym (h .0)) ∙ take-append-seam c (joined cs))
-      (ap (λ (k : ℕ). chunks R (length cs) (drop k (c ++ joined cs))) (sym (h .0)) ∙ ap (λ (l : List ℕ). chunks R (length cs) l) (drop-append-seam c (joined cs)) ∙ joined-chunks cs (h .1))
+      (ap (λ (k : ℕ). chunks R (length cs) (drop k (c ++ joined cs))) (sym (h .0))
+      ∙ ap (λ (l : List ℕ). chunks R (length cs) l) (drop-append-seam c (joined cs)) ∙ joined-chunks cs (h .1))
 
   pub getD-chunks : (n i : ℕ) (t : List ℕ) → i < n → getD (chunks R n t) i [] ≡ take R (drop (i * R) t)
   getD-chunks zero i t h = absurd (not-suc-le-zero h)

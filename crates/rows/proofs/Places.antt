@@ -9,7 +9,8 @@ use Rattle.words.specs.Codec.{blank}
 use Rattle.rows.specs.Place.{putRow, insRow, delRow, movedDown, movedUp}
 use Rattle.rows.proofs.Moves.{put-down, put-up}
 
-pub ins-law : (t : List ℕ) (i n : ℕ) (b : List ℕ) → i ≤ n → n * ROW + ROW ≤ length t → putRow (movedDown t (i * ROW) (n * ROW)) i b ≡ insRow t i n b
+pub ins-law : (t : List ℕ) (i n : ℕ) (b : List ℕ) → i ≤ n → n * ROW + ROW ≤ length t
+    → putRow (movedDown t (i * ROW) (n * ROW)) i b ≡ insRow t i n b
 unfolding putRow movedDown insRow
 ins-law t i n b l h = put-down ROW t (i * ROW) (n * ROW) b (omega arith)
 

@@ -54,7 +54,8 @@ pub record Higher (a b : Id) : Type 0 where
   pub is : order a b ≡ Ordering·gt
 
 module _ (a b : Id) (ha : a .number < 65536) (hb : b .number < 65536) where
-  by-number : (o : Ordering) → compare (a .number) (b .number) ≡ o → compare (a .tn .0) (b .tn .0) ≡ Ordering·eq → Lower a b ⊎ (Equal a b ⊎ Higher a b)
+  by-number : (o : Ordering) → compare (a .number) (b .number) ≡ o → compare (a .tn .0) (b .tn .0) ≡ Ordering·eq
+      → Lower a b ⊎ (Equal a b ⊎ Higher a b)
   unfolding order
   by-number Ordering·lt e q =
       let t : a .tn .0 ≡ b .tn .0 = eqb-true _ _ (ap isEq q) in
@@ -107,7 +108,8 @@ above-rises k [] h a e = tt
 above-rises k (v ∷ vs) h a e =
     let w = sel-true (order k (v .id)) (above (v .id) vs) e in
     let n : v .id .number < 65536 = number-lt v (a .0) in (
-      ⊎-elim (λ z. z .key) (⊎-elim (λ z. absurd (no-other (z .is) (w .0))) (λ z. absurd (no-higher (z .is) (w .0)))) (order-view k (v .id) h n),
+      ⊎-elim (λ z. z .key) (⊎-elim (λ z. absurd (no-other (z .is) (w .0))) (λ z. absurd (no-higher (z .is) (w .0))))
+          (order-view k (v .id) h n),
       above-rises (v .id) vs n (a .1) (w .1),
     )
   where

@@ -6,7 +6,8 @@ use native.Mathlib.Nat.{suc-mul}
 use native.Mathlib.Omega.{arith}
 use native.Mathlib.Numerals.{add-one}
 use mathlib.Core.Bool.{Bool}
-use lib.ListN.{length, take, drop, getD, set, replicate, length-append, length-take, length-drop, length-set, length-map, length-replicate, List·getD-append}
+use lib.ListN.{length, take, drop, getD, set, replicate, length-append, length-take, length-drop, length-set, length-map, length-replicate}
+use lib.ListN.{List·getD-append}
 use lib.Seq.{slice, set-split, set-append-left, take-append-le, take-at, drop-at, drop-append-add}
 use Rattle.model.specs.declared.Version.{Version}
 use Rattle.words.specs.Size.{ROW}
@@ -16,7 +17,8 @@ use Rattle.rows.specs.Place.{rowAt, putRow, insRow, delRow}
 use Rattle.rows.specs.Chunks.{chunks, joined}
 use Rattle.rows.specs.Table.{piecesOf, used, usedIf, decode, cells, encode, insertAt, removeAt}
 use Rattle.rows.proofs.Lists.{take-map, drop-map, set-map, getD-map}
-use Rattle.rows.proofs.Pieces.{Even, joined-append, take-joined, drop-joined, even-take, even-append, joined-length, joined-chunks, chunks-length, getD-chunks}
+use Rattle.rows.proofs.Pieces.{Even, joined-append, take-joined, drop-joined, even-take, even-append, joined-length, joined-chunks}
+use Rattle.rows.proofs.Pieces.{chunks-length, getD-chunks}
 use Rattle.row.proofs.Rooms.{sound-room}
 use Rattle.row.proofs.Packs.{pack-length, unpack-pack, blank-free, pack-used}
 use Rattle.rows.proofs.Sounds.{AllSound, sound-at}
@@ -96,7 +98,8 @@ module _ (vs : List Version) (n : ℕ) where
       (set-append-left (map pack vs) (replicate (n - length vs) blank) i (pack r) (simp length-map l)
       ∙ ap₂ (λ (x : List (List ℕ)) (k : ℕ). x ++ replicate (n - k) blank) (set-map pack vs i r) (sym (length-set vs i r)))
 
-  pub ins-encode : (i : ℕ) (r : Version) → i ≤ length vs → length vs < n → insRow (encode vs n) i (length vs) (pack r) ≡ encode (insertAt vs i r) n
+  pub ins-encode : (i : ℕ) (r : Version) → i ≤ length vs → length vs < n
+      → insRow (encode vs n) i (length vs) (pack r) ≡ encode (insertAt vs i r) n
   unfolding encode cells
   ins-encode i r l h =
       let ps : List (List ℕ) = map pack vs in
@@ -167,7 +170,8 @@ unfolding piecesOf rowAt
 rows-at t i h = getD-chunks ROW (length t / ROW) i t h
 
 -- row i of it is the i-th of vs
-pub row-encode : (vs : List Version) (n i : ℕ) (d : Version) → AllSound vs → i < length vs → length vs ≤ n → unpack (rowAt (encode vs n) i) ≡ getD vs i d
+pub row-encode : (vs : List Version) (n i : ℕ) (d : Version) → AllSound vs → i < length vs → length vs ≤ n
+    → unpack (rowAt (encode vs n) i) ≡ getD vs i d
 unfolding cells
 row-encode vs n i d a l h =
     let v : Version = getD vs i d in

@@ -1,27 +1,24 @@
 -- What is judged over the survey is refused or accepted as the model's rule says.
 -- Assumes nothing.
-use mathlib.Core.Path.{_≡_, refl, sym, ap, ap₂, _∙_, subst}
+use mathlib.Core.Path.{_≡_, refl, sym, ap, _∙_, subst}
 use Prim.Native.Nat.{ℕ, _+_, _^_, _<_, _≤_}
 use native.Mathlib.Omega.{arith}
-use mathlib.Core.Bool.{Bool, true, false, cond, not, _&&_, _||_}
+use mathlib.Core.Bool.{Bool, true, false, not, _&&_, _||_}
 use mathlib.Core.Option.{none}
 use mathlib.Core.List.{List, [], _∷_}
 use lib.Dec.{eqb, ltb, leb}
 use lib.ListN.{getD}
 use borrow.Author.Tests.{eqb-true, leb-true, leb-false, le-leb, ltb-true, not-false}
 use Rattle.systems.specs.Set.{member}
-use Rattle.model.specs.Basics.{holds, isNone}
 use Rattle.model.specs.Books.{Books}
-use Rattle.model.specs.Record.{isPlain, isCreate, isAnswer, isBroadcast, wellFormed, kindFits}
+use Rattle.model.specs.Record.{isPlain, isCreate, isAnswer, wellFormed, kindFits}
 use Rattle.model.specs.Sound.{apart, setsApart, retriesInRange}
 use Rattle.model.specs.Standing.{isGridKind}
 use Rattle.model.specs.Outcomes.{isDone, numberOf, judge, orderOf, createOrder, answerOrder}
-use Rattle.model.specs.Given.{Given, Result, withNumber, besides, found}
+use Rattle.model.specs.Given.{withNumber, besides, found}
 use Rattle.model.specs.Answers.{answering, awaited, answers}
-use Rattle.model.specs.Creates.{oldIn, currentOr, fits}
-use Rattle.model.specs.Selection.{selectedFor}
 use Rattle.model.specs.Refusals.{refuses, beforeStart}
-use Rattle.model.specs.Step.{manages, accepted, rule}
+use Rattle.model.specs.Step.{accepted, rule}
 use Rattle.model.proofs.Lists.{clash, conj-at, and-l, and-r}
 use Rattle.model.proofs.Formed.{fields, answering-named}
 use Rattle.model.proofs.SoundSets.{apart-says, apart-turned}
@@ -35,14 +32,13 @@ use Rattle.table.specs.declared.survey.Seen.the-variants.{Nobody, One}
 use Rattle.judge.specs.Judged.{testOf, createTests, createFor, unknownBy, answerFor, otherFor}
 use Rattle.model.proofs.Outcomes.{zero-done, other-refused, refusal-passed}
 use Rattle.judge.proofs.Judging.{create-judged, unknown-judged, answer-judged, other-judged}
-use Rattle.verdict.specs.Verdict.{resultOf}
 use Rattle.verdict.specs.declared.Verdict.{Verdict}
-use Rattle.rules.specs.Rules.{Holds, Sits, Says, Settles, Manages, Creates, givenBy, Facing, Decides, refusedBy}
+use Rattle.rules.specs.Rules.{Holds, Says, Settles, Manages, Creates, givenBy, Facing, Decides, refusedBy}
 use Rattle.rules.specs.declared.Known.{Known}
 use Rattle.model.specs.declared.Event.{Event}
 use Rattle.model.specs.declared.Version.{Version}
 use Rattle.model.specs.declared.Outcome.{Outcome}
-use Rattle.model.specs.declared.Outcome.the-variants.{Done, Unawaited, Full, Exhausted}
+use Rattle.model.specs.declared.Outcome.the-variants.{Unawaited, Full, Exhausted}
 
 -- ---- refused, or accepted
 

@@ -19,8 +19,8 @@ ghost use Rattle.model.proofs.SoundRows.{Row};
 ghost use Rattle.table.specs.declared.survey.Seen.the-variants.{One};
 ghost use Rattle.rules.specs.Rules.{Kept, Decides, refusedBy};
 
-// What the books and the table say beside the versions: R, whether sender or other is not present, the owner of a create's code, whether a row is
-// free, and whom a broadcast asks.
+// What the books and the table say beside the versions: R, whether sender or other is not present, the owner of a create's code, whether a
+// row is free, and whom a broadcast asks.
 pub struct Known {
     pub most: u8,
     pub absent: bool,

@@ -1,8 +1,7 @@
 // The provider list of document 01's example: held as three records, and lent to a step as a list. [Z1, F7]
 ghost use mathlib.Core.Path.{_≡_};
 ghost use Rattle.providers.specs.Providers.{listed};
-ghost use Rattle.engine.specs.Event.{Did};
-ghost use Rattle.engine.specs.Step.{resultIn};
+ghost use Rattle.engine.specs.Step.{Stepped};
 ghost use Rattle.sample.specs.Sample.{three};
 use model::Provider;
 use outcomes::Answer;
@@ -27,7 +26,8 @@ pub fn step_of_three(
     event: &[u8],
     tray: &mut [u8],
 ) -> Answer
-    ensures { λ r. ⌜ Did (resultIn (listed list) (now (books .entry)) most (now (event .entry)) (now (table .entry)) (now (tray .entry))) (now (table .entry)) (now (tray .entry)) (now (table .exit)) (now (tray .exit)) r ⌝ }
+    ensures { λ r. ⌜ Stepped (listed list) (now (books .entry)) most (now (event .entry))
+        (now (table .entry)) (now (tray .entry)) (now (table .exit)) (now (tray .exit)) r ⌝ }
 {
     lent::step_of_list(table, &list, books, most, event, tray)
 }

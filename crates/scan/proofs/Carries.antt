@@ -2,7 +2,7 @@
 use mathlib.Core.Path.{_≡_, refl, sym, ap, ap₂, _∙_, subst}
 use mathlib.Core.Bool.{Bool, true, false, cond, not, _&&_, _||_}
 use mathlib.Core.List.{List, [], _∷_}
-use Prim.Native.Nat.{ℕ, _+_, _-_, _*_, _/_, _%_, _≤_, _<_}
+use Prim.Native.Nat.{ℕ, _+_, _-_, _≤_, _<_}
 use native.Mathlib.Omega.{arith}
 use borrow.Author.Tests.{eq-eqb, ne-eqb, le-ltb, lt-ltb, ltb-true}
 use lib.Bits.{bitAnd}
@@ -15,39 +15,40 @@ use Rattle.model.proofs.Lists.{conj-at}
 use Rattle.model.proofs.SoundSets.{every-at}
 use Rattle.row.specs.Layout.{keyOf}
 use Rattle.scan.specs.declared.join.Group.{Group}
-use Rattle.scan.specs.declared.join.Seen.{Seen}
-use Rattle.scan.specs.declared.join.Joined.{Joined}
+use Rattle.scan.specs.declared.join.Bits.{Bits}
 use Rattle.scan.specs.declared.join.Joined.the-variants.{No, Yes}
 use Rattle.scan.specs.Join.{start, same, second, either, follows, next, joinIf, joinOf}
-use Rattle.scan.specs.Carried.{marksOf, isLive, isSent, isWork, groupOf}
+use Rattle.scan.specs.Carried.{bitsOf, isLive, isSent, isWork, groupOf}
 
 -- ---- the marks as bits
 
 abbrev apart : ℕ → Bool → Bool → Bool → Bool
-apart h l s w = eqb (bitAnd h (marksOf l s w)) 0
+apart h l s w = eqb (bitAnd h (bitsOf l s w)) 0
 
 abbrev agree : ℕ → Bool → Bool → Bool → Bool
 agree h l s w =
     iff (apart h l s w) (not (isLive h && l) && not (isSent h && s) && not (isWork h && w))
-    && implies (apart h l s w) (iff (isLive (h + marksOf l s w)) (isLive h || l))
-    && implies (apart h l s w) (iff (isSent (h + marksOf l s w)) (isSent h || s))
-    && implies (apart h l s w) (iff (isWork (h + marksOf l s w)) (isWork h || w))
-    && implies (apart h l s w) (ltb (h + marksOf l s w) 8)
+    && implies (apart h l s w) (iff (isLive (h + bitsOf l s w)) (isLive h || l))
+    && implies (apart h l s w) (iff (isSent (h + bitsOf l s w)) (isSent h || s))
+    && implies (apart h l s w) (iff (isWork (h + bitsOf l s w)) (isWork h || w))
+    && implies (apart h l s w) (ltb (h + bitsOf l s w) 8)
 
 abbrev parts : ℕ → Bool → Bool → Bool → List Bool
 parts h l s w =
     iff (apart h l s w) (not (isLive h && l) && not (isSent h && s) && not (isWork h && w))
-    ∷ implies (apart h l s w) (iff (isLive (h + marksOf l s w)) (isLive h || l))
-    ∷ implies (apart h l s w) (iff (isSent (h + marksOf l s w)) (isSent h || s))
-    ∷ implies (apart h l s w) (iff (isWork (h + marksOf l s w)) (isWork h || w))
-    ∷ implies (apart h l s w) (ltb (h + marksOf l s w) 8) ∷ []
+    ∷ implies (apart h l s w) (iff (isLive (h + bitsOf l s w)) (isLive h || l))
+    ∷ implies (apart h l s w) (iff (isSent (h + bitsOf l s w)) (isSent h || s))
+    ∷ implies (apart h l s w) (iff (isWork (h + bitsOf l s w)) (isWork h || w))
+    ∷ implies (apart h l s w) (ltb (h + bitsOf l s w) 8) ∷ []
 
 abbrev cases : (Bool → Bool → Bool → Bool) → List Bool
-cases f = f true true true ∷ f true true false ∷ f true false true ∷ f true false false ∷ f false true true ∷ f false true false ∷ f false false true ∷ f false false false ∷ []
+cases f = f true true true ∷ f true true false ∷ f true false true ∷ f true false false ∷ f false true true ∷ f false true false
+    ∷ f false false true ∷ f false false false ∷ []
 
 unfoldable right : ℕ → Bool
 right h =
-    agree h true true true && agree h true true false && agree h true false true && agree h true false false && agree h false true true && agree h false true false
+    agree h true true true && agree h true true false && agree h true false true && agree h true false false && agree h false true true
+    && agree h false true false
     && agree h false false true && agree h false false false
 
 right-at : (h : ℕ) (l s w : Bool) → right h ≡ true → agree h l s w ≡ true
@@ -89,17 +90,20 @@ module _ (h : ℕ) (l s w : Bool) (k : h < 8) where
   apart-is = iff-same (apart h l s w) (not (isLive h && l) && not (isSent h && s) && not (isWork h && w)) (at 0)
 
   module _ (e : apart h l s w ≡ true) where
-    sum-live : isLive (h + marksOf l s w) ≡ (isLive h || l)
-    sum-live = iff-same (isLive (h + marksOf l s w)) (isLive h || l) (implied (apart h l s w) (iff (isLive (h + marksOf l s w)) (isLive h || l)) (at 1) e)
+    sum-live : isLive (h + bitsOf l s w) ≡ (isLive h || l)
+    sum-live = iff-same (isLive (h + bitsOf l s w)) (isLive h || l)
+        (implied (apart h l s w) (iff (isLive (h + bitsOf l s w)) (isLive h || l)) (at 1) e)
 
-    sum-sent : isSent (h + marksOf l s w) ≡ (isSent h || s)
-    sum-sent = iff-same (isSent (h + marksOf l s w)) (isSent h || s) (implied (apart h l s w) (iff (isSent (h + marksOf l s w)) (isSent h || s)) (at 2) e)
+    sum-sent : isSent (h + bitsOf l s w) ≡ (isSent h || s)
+    sum-sent = iff-same (isSent (h + bitsOf l s w)) (isSent h || s)
+        (implied (apart h l s w) (iff (isSent (h + bitsOf l s w)) (isSent h || s)) (at 2) e)
 
-    sum-work : isWork (h + marksOf l s w) ≡ (isWork h || w)
-    sum-work = iff-same (isWork (h + marksOf l s w)) (isWork h || w) (implied (apart h l s w) (iff (isWork (h + marksOf l s w)) (isWork h || w)) (at 3) e)
+    sum-work : isWork (h + bitsOf l s w) ≡ (isWork h || w)
+    sum-work = iff-same (isWork (h + bitsOf l s w)) (isWork h || w)
+        (implied (apart h l s w) (iff (isWork (h + bitsOf l s w)) (isWork h || w)) (at 3) e)
 
-    sum-few : h + marksOf l s w < 8
-    sum-few = ltb-true (h + marksOf l s w) 8 (implied (apart h l s w) (ltb (h + marksOf l s w) 8) (at 4) e)
+    sum-few : h + bitsOf l s w < 8
+    sum-few = ltb-true (h + bitsOf l s w) 8 (implied (apart h l s w) (ltb (h + bitsOf l s w) 8) (at 4) e)
 
 -- ---- and of this number only
 
@@ -107,24 +111,25 @@ none : 0 < 8
 none = omega arith
 
 test-is : (b : Bool) (h : ℕ) (l s w : Bool) → h < 8
-    → eqb (bitAnd (cond b h 0) (marksOf l s w)) 0 ≡ (not (second b (isLive h) l) && not (second b (isSent h) s) && not (second b (isWork h) w))
+    → eqb (bitAnd (cond b h 0) (bitsOf l s w)) 0
+    ≡ (not (second b (isLive h) l) && not (second b (isSent h) s) && not (second b (isWork h) w))
 test-is true h l s w k = apart-is h l s w k
 test-is false h l s w k = refl
 
 module _ (h : ℕ) (l s w : Bool) (k : h < 8) where
-  now-live : (b : Bool) → eqb (bitAnd (cond b h 0) (marksOf l s w)) 0 ≡ true → isLive (cond b h 0 + marksOf l s w) ≡ either b (isLive h) l
+  now-live : (b : Bool) → eqb (bitAnd (cond b h 0) (bitsOf l s w)) 0 ≡ true → isLive (cond b h 0 + bitsOf l s w) ≡ either b (isLive h) l
   now-live true e = sum-live h l s w k e
   now-live false e = sum-live 0 l s w none e
 
-  now-sent : (b : Bool) → eqb (bitAnd (cond b h 0) (marksOf l s w)) 0 ≡ true → isSent (cond b h 0 + marksOf l s w) ≡ either b (isSent h) s
+  now-sent : (b : Bool) → eqb (bitAnd (cond b h 0) (bitsOf l s w)) 0 ≡ true → isSent (cond b h 0 + bitsOf l s w) ≡ either b (isSent h) s
   now-sent true e = sum-sent h l s w k e
   now-sent false e = sum-sent 0 l s w none e
 
-  now-work : (b : Bool) → eqb (bitAnd (cond b h 0) (marksOf l s w)) 0 ≡ true → isWork (cond b h 0 + marksOf l s w) ≡ either b (isWork h) w
+  now-work : (b : Bool) → eqb (bitAnd (cond b h 0) (bitsOf l s w)) 0 ≡ true → isWork (cond b h 0 + bitsOf l s w) ≡ either b (isWork h) w
   now-work true e = sum-work h l s w k e
   now-work false e = sum-work 0 l s w none e
 
-  now-few : (b : Bool) → eqb (bitAnd (cond b h 0) (marksOf l s w)) 0 ≡ true → cond b h 0 + marksOf l s w < 8
+  now-few : (b : Bool) → eqb (bitAnd (cond b h 0) (bitsOf l s w)) 0 ≡ true → cond b h 0 + bitsOf l s w < 8
   now-few true e = sum-few h l s w k e
   now-few false e = sum-few 0 l s w none e
 
@@ -134,14 +139,17 @@ pub start-seen : groupOf (record { last = 0; had = 0 }) ≡ start
 unfolding groupOf
 start-seen = refl
 
-module _ (s : Seen) (v : Version) (few : s .had < 8) (had has : ℕ) (eh : had ≡ cond (same (s .last) v) (s .had) 0) (es : has ≡ marksOf (live v) (sends v) (worked v)) where
+module _ (s : Bits) (v : Version) (few : s .had < 8) (had has : ℕ) (eh : had ≡ cond (same (s .last) v) (s .had) 0)
+    (es : has ≡ bitsOf (live v) (sends v) (worked v)) where
   abbrev b : Bool
   b = same (s .last) v
 
   abbrev m : ℕ
-  m = marksOf (live v) (sends v) (worked v)
+  m = bitsOf (live v) (sends v) (worked v)
 
-  follows-is : follows (groupOf s) v ≡ (ltb (s .last) (keyOf (v .id)) && not (second b (isLive (s .had)) (live v)) && not (second b (isSent (s .had)) (sends v)) && not (second b (isWork (s .had)) (worked v)))
+  follows-is : follows (groupOf s) v
+      ≡ (ltb (s .last) (keyOf (v .id)) && not (second b (isLive (s .had)) (live v)) && not (second b (isSent (s .had)) (sends v))
+      && not (second b (isWork (s .had)) (worked v)))
   unfolding follows groupOf
   follows-is = refl
 
@@ -152,7 +160,8 @@ module _ (s : Seen) (v : Version) (few : s .had < 8) (had has : ℕ) (eh : had �
   follows-test : follows (groupOf s) v ≡ (ltb (s .last) (keyOf (v .id)) && eqb (bitAnd (cond b (s .had) 0) m) 0)
   follows-test =
       follows-is
-      ∙ three (ltb (s .last) (keyOf (v .id))) (not (second b (isLive (s .had)) (live v))) (not (second b (isSent (s .had)) (sends v))) (not (second b (isWork (s .had)) (worked v)))
+      ∙ three (ltb (s .last) (keyOf (v .id))) (not (second b (isLive (s .had)) (live v))) (not (second b (isSent (s .had)) (sends v)))
+      (not (second b (isWork (s .had)) (worked v)))
       ∙ ap (λ (x : Bool). ltb (s .last) (keyOf (v .id)) && x) (sym (test-is b (s .had) (live v) (sends v) (worked v) few))
 
   pub follow-late : keyOf (v .id) ≤ s .last → No ≡ joinOf (groupOf s) v
@@ -171,7 +180,9 @@ module _ (s : Seen) (v : Version) (few : s .had < 8) (had has : ℕ) (eh : had �
   pub follow-twice : (bitAnd had has ≡ 0 → ⊥) → No ≡ joinOf (groupOf s) v
   unfolding joinOf
   follow-twice n =
-      sym (ap (λ (x : Bool). joinIf x (Yes (next (groupOf s) v)) No) (follows-test ∙ both-false (ltb (s .last) (keyOf (v .id))) (eqb (bitAnd (cond b (s .had) 0) m) 0) (ne-eqb (bitAnd (cond b (s .had) 0) m) 0 (λ e. n (meet ∙ e)))))
+      sym (ap (λ (x : Bool). joinIf x (Yes (next (groupOf s) v)) No)
+      (follows-test ∙ both-false (ltb (s .last) (keyOf (v .id))) (eqb (bitAnd (cond b (s .had) 0) m) 0)
+      (ne-eqb (bitAnd (cond b (s .had) 0) m) 0 (λ e. n (meet ∙ e)))))
 
   module _ (h : s .last < keyOf (v .id)) (z : bitAnd had has ≡ 0) where
     free : eqb (bitAnd (cond b (s .had) 0) m) 0 ≡ true
@@ -189,7 +200,8 @@ module _ (s : Seen) (v : Version) (few : s .had < 8) (had has : ℕ) (eh : had �
     pub follow-go : Yes (groupOf (record { last = keyOf (v .id); had = had + has })) ≡ joinOf (groupOf s) v
     unfolding joinOf
     follow-go =
-        let e : (ltb (s .last) (keyOf (v .id)) && eqb (bitAnd (cond b (s .had) 0) m) 0) ≡ true = rw (lt-ltb (s .last) (keyOf (v .id)) h, free) in
+        let e : (ltb (s .last) (keyOf (v .id)) && eqb (bitAnd (cond b (s .had) 0) m) 0) ≡ true =
+        rw (lt-ltb (s .last) (keyOf (v .id)) h, free) in
         ap₂ (λ (x y : ℕ). Yes (groupOf (record { last = keyOf (v .id); had = x + y }))) eh es ∙ ap (λ (g : Group). Yes g) next-is
         ∙ sym (ap (λ (x : Bool). joinIf x (Yes (next (groupOf s) v)) No) (follows-test ∙ e))
 

@@ -55,7 +55,8 @@ module _ (p : Version → Bool) where
   tally-counts n [] = refl
   tally-counts n (v ∷ vs) = go (eqb (v .id .tn .0) n) (p v) refl (tally-counts n vs)
     where
-      go : (a b : Bool) → p v ≡ b → count p (rowsOf itself n vs) ≡ tally n vs → count p (cond a (v ∷ rowsOf itself n vs) (rowsOf itself n vs)) ≡ one a (p v) + tally n vs
+      go : (a b : Bool) → p v ≡ b → count p (rowsOf itself n vs) ≡ tally n vs
+          → count p (cond a (v ∷ rowsOf itself n vs) (rowsOf itself n vs)) ≡ one a (p v) + tally n vs
       go true true e ih = rw e (omega (arith, ih))
       go true false e ih = rw e (omega (arith, ih))
       go false b e ih = omega (arith, ih)
@@ -72,10 +73,12 @@ module _ (p : Version → Bool) where
       let lt : k < keyOf (v .id) = r .0 in
       let up : n < v .id .tn .0 = omega arith in
       let next : n < keyOf (v .id) / 65536 = omega arith in
-      ap₂ (λ (x y : ℕ). x + y) (ap (λ (c : Bool). one c (p v)) (ne-eqb (v .id .tn .0) n (ne-of-gt up))) (low-none vs (keyOf (v .id)) n (a .1) (r .1) next)
+      ap₂ (λ (x y : ℕ). x + y) (ap (λ (c : Bool). one c (p v)) (ne-eqb (v .id .tn .0) n (ne-of-gt up)))
+      (low-none vs (keyOf (v .id)) n (a .1) (r .1) next)
 
   -- row by row gives the counts
-  pub flags-tally : (vs : List Version) (k m : ℕ) (f : Bool) → AllSound vs → RisingFrom k vs → m ≡ k / 65536 → Flags m f vs → (n : ℕ) → tally n vs + one (eqb m n) f ≤ 1
+  pub flags-tally : (vs : List Version) (k m : ℕ) (f : Bool) → AllSound vs → RisingFrom k vs → m ≡ k / 65536 → Flags m f vs → (n : ℕ)
+      → tally n vs + one (eqb m n) f ≤ 1
   flags-tally [] k m f a r e h n = omega (arith, one-le (eqb m n) f)
   flags-tally (v ∷ vs) k m f a r e h n =
       let b : v .id .number < 65536 = number-lt v (a .0) in
@@ -117,7 +120,12 @@ module _ (p : Version → Bool) where
   tally-flags (v ∷ vs) m f h = (
     first (eqb (v .id .tn .0) m) refl f refl (p v) refl (h (v .id .tn .0)),
     tally-flags vs (v .id .tn .0) (either (eqb (v .id .tn .0) m) f (p v))
-        (λ n. omega (arith, h n, either-le (eqb (v .id .tn .0) n) (eqb m n) (eqb (v .id .tn .0) m) f (p v) (λ s. ap (λ (j : ℕ). eqb j n) (eqb-true _ _ s)))),
+        (λ n. omega (
+          arith,
+          h n,
+          either-le (eqb (v .id .tn .0) n) (eqb m n) (eqb (v .id .tn .0) m) f (p v)
+              (λ s. ap (λ (j : ℕ). eqb j n) (eqb-true _ _ s)),
+        )),
   )
     where
       first : (s : Bool) → eqb (v .id .tn .0) m ≡ s → (g : Bool) → f ≡ g → (x : Bool) → p v ≡ x
@@ -142,12 +150,16 @@ module _ (p : Version → Bool) where
 
   pub one-each : (t : List Version) → AtMostOne t → (vs : List Version) → all (oneOf t) vs ≡ true
   one-each t h [] = refl
-  one-each t h (v ∷ vs) = rw (le-leb (count p (rowsOf itself (v .id .tn .0) t)) 1 (omega (arith, tally-counts (v .id .tn .0) t, h (v .id .tn .0))), one-each t h vs)
+  one-each t h (v ∷ vs) = rw (
+    le-leb (count p (rowsOf itself (v .id .tn .0) t)) 1 (omega (arith, tally-counts (v .id .tn .0) t, h (v .id .tn .0))),
+    one-each t h vs,
+  )
 
   each-named : (t vs : List Version) (n : ℕ) → all (oneOf t) vs ≡ true → (tally n vs ≡ 0) ⊎ (tally n t ≤ 1)
   each-named t [] n h = inl refl
   each-named t (v ∷ vs) n h =
-      ⊎-elim (go (eqb (v .id .tn .0) n) refl (and-l (oneOf t v) (all (oneOf t) vs) h)) inr (each-named t vs n (and-r (oneOf t v) (all (oneOf t) vs) h))
+      ⊎-elim (go (eqb (v .id .tn .0) n) refl (and-l (oneOf t v) (all (oneOf t) vs) h)) inr
+      (each-named t vs n (and-r (oneOf t v) (all (oneOf t) vs) h))
     where
       go : (b : Bool) → eqb (v .id .tn .0) n ≡ b → oneOf t v ≡ true → tally n vs ≡ 0 → (tally n (v ∷ vs) ≡ 0) ⊎ (tally n t ≤ 1)
       go true e o z =

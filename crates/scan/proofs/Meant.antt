@@ -11,7 +11,8 @@ use lib.ListN.{length, getD}
 use Rattle.octets.specs.Octets.{Bytes}
 use Rattle.model.specs.declared.Version.{Version}
 use Rattle.model.specs.Table.{inLine, rowsOf}
-use Rattle.model.specs.Sound.{count, live, sends, worked, oneEach, noneTwice, soundLine, rising, soundVersion, soundLines, soundTable, mostRows}
+use Rattle.model.specs.Sound.{count, live, sends, worked, oneEach, noneTwice, soundLine, rising, soundVersion, soundLines, soundTable}
+use Rattle.model.specs.Sound.{mostRows}
 use Rattle.words.specs.Size.{ROW}
 use Rattle.row.specs.Layout.{keyOf}
 use Rattle.model.specs.Basics.{all, none, with}
@@ -43,7 +44,8 @@ pub record Parts (g : Group) (vs : List Version) : Type 0 where
 -- the tests of `follows`, in their order
 abbrev tested : Group → Version → List Bool
 tested g v =
-    ltb (g .last) (keyOf (v .id)) ∷ not (second (same (g .last) v) (g .live) (live v)) ∷ not (second (same (g .last) v) (g .sends) (sends v))
+    ltb (g .last) (keyOf (v .id)) ∷ not (second (same (g .last) v) (g .live) (live v))
+    ∷ not (second (same (g .last) v) (g .sends) (sends v))
     ∷ not (second (same (g .last) v) (g .worked) (worked v)) ∷ []
 
 key-tn : (v : Version) → soundVersion v ≡ true → keyOf (v .id) / 65536 ≡ v .id .tn .0
@@ -70,7 +72,8 @@ unfolding follows next
 parts-chain [] g a p = tt
 parts-chain (v ∷ vs) g a p =
     let e = sym (key-tn v (a .0)) in (
-      conj-all (tested g v) (with (lt-ltb _ _ (p .rises .0)) (with (ap not (p .lives .0)) (with (ap not (p .sent .0)) (with (ap not (p .work .0)) none)))),
+      conj-all (tested g v) (with (lt-ltb _ _ (p .rises .0))
+          (with (ap not (p .lives .0)) (with (ap not (p .sent .0)) (with (ap not (p .work .0)) none)))),
       parts-chain vs (next g v) (a .1)
           (record {
             rises = p .rises .1;
@@ -89,24 +92,34 @@ eachIn t v = soundLine (rowsOf itself (v .id .tn .0) t)
 -- no number stands twice among the rows of one TN, since they rise
 none-twice : (t : List Version) → rising t ≡ true → (n : ℕ) → noneTwice (rowsOf itself n t) ≡ true
 none-twice t h n =
-    says-twice (rowsOf itself n t) (distinct-rising n (rowsOf itself n t) (rising-part (inLine itself n) t (rising-says t h)) (rows-rows itself n t))
+    says-twice (rowsOf itself n t)
+    (distinct-rising n (rowsOf itself n t) (rising-part (inLine itself n) t (rising-says t h)) (rows-rows itself n t))
 
-split-each : (t vs : List Version) → all (eachIn t) vs ≡ true → (all (oneOf live t) vs ≡ true) × ((all (oneOf sends t) vs ≡ true) × (all (oneOf worked t) vs ≡ true))
+split-each : (t vs : List Version) → all (eachIn t) vs ≡ true → (all (oneOf live t) vs ≡ true)
+    × ((all (oneOf sends t) vs ≡ true) × (all (oneOf worked t) vs ≡ true))
 unfolding soundLine oneEach
 split-each t [] h = (refl, (refl, refl))
 split-each t (v ∷ vs) h =
     let three : List Bool = oneOf live t v ∷ oneOf sends t v ∷ oneOf worked t v ∷ [] in
-    let of : (i : ℕ) → getD three i true ≡ true = conj-at three (and-l _ (noneTwice (rowsOf itself (v .id .tn .0) t)) (and-l (eachIn t v) (all (eachIn t) vs) h)) in
+    let of : (i : ℕ) → getD three i true ≡ true =
+    conj-at three (and-l _ (noneTwice (rowsOf itself (v .id .tn .0) t)) (and-l (eachIn t v) (all (eachIn t) vs) h)) in
     let r = split-each t vs (and-r (eachIn t v) (all (eachIn t) vs) h) in
     (both-true _ _ (of 0) (r .0), (both-true _ _ (of 1) (r .1 .0), both-true _ _ (of 2) (r .1 .1)))
 
-join-each : (t vs : List Version) → rising t ≡ true → all (oneOf live t) vs ≡ true → all (oneOf sends t) vs ≡ true → all (oneOf worked t) vs ≡ true → all (eachIn t) vs ≡ true
+join-each : (t vs : List Version) → rising t ≡ true → all (oneOf live t) vs ≡ true → all (oneOf sends t) vs ≡ true
+    → all (oneOf worked t) vs ≡ true → all (eachIn t) vs ≡ true
 unfolding soundLine oneEach
 join-each t [] up l s w = refl
 join-each t (v ∷ vs) up l s w =
-    rw
-    (and-l (oneOf live t v) (all (oneOf live t) vs) l, and-l (oneOf sends t v) (all (oneOf sends t) vs) s, and-l (oneOf worked t v) (all (oneOf worked t) vs) w, none-twice t up (v .id .tn .0))
-    (join-each t vs up (and-r (oneOf live t v) (all (oneOf live t) vs) l) (and-r (oneOf sends t v) (all (oneOf sends t) vs) s) (and-r (oneOf worked t v) (all (oneOf worked t) vs) w))
+    rw (
+      and-l (oneOf live t v) (all (oneOf live t) vs) l,
+      and-l (oneOf sends t v) (all (oneOf sends t) vs) s,
+      and-l (oneOf worked t v)
+          (all (oneOf worked t) vs) w,
+      none-twice t up (v .id .tn .0),
+    )
+    (join-each t vs up (and-r (oneOf live t v) (all (oneOf live t) vs) l) (and-r (oneOf sends t v) (all (oneOf sends t) vs) s)
+    (and-r (oneOf worked t v) (all (oneOf worked t) vs) w))
 
 pub record Good (rows : ℕ) (t : List Version) : Type 0 where
   pub few : rows ≤ mostRows
@@ -140,7 +153,12 @@ pub good-table : (rows : ℕ) (t : List Version) → Good rows t → soundTable 
 unfolding soundTable soundLines
 good-table rows t g =
     conj-all (tests rows t)
-    (with (le-leb _ _ (g .few)) (with (le-leb _ _ (g .room)) (with (rises-rising t (g .sound) (g .rises)) (with (sound-all t (g .sound)) (with (join-each t t (rises-rising t (g .sound) (g .rises)) (one-each live t (g .lives) t) (one-each sends t (g .sent) t) (one-each worked t (g .work) t)) none)))))
+    (with (le-leb _ _ (g .few))
+    (with (le-leb _ _ (g .room))
+    (with (rises-rising t (g .sound) (g .rises))
+    (with (sound-all t (g .sound))
+    (with (join-each t t (rises-rising t (g .sound) (g .rises)) (one-each live t (g .lives) t) (one-each sends t (g .sent) t)
+    (one-each worked t (g .work) t)) none)))))
 
 pub good-chain : (rows : ℕ) (t : List Version) → Good rows t → Chain start t
 good-chain rows t g =
@@ -201,7 +219,8 @@ sound-says t n y e =
       whole = w;
       few = f;
       is = r .is;
-      sound = good-table (rowsIn t) (decode t) (chain-good (rowsIn t) (decode t) f (omega (arith, r .count, r .room)) (r .sound) (r .chain));
+      sound = good-table (rowsIn t) (decode t)
+          (chain-good (rowsIn t) (decode t) f (omega (arith, r .count, r .room)) (r .sound) (r .chain));
       count = r .count;
       room = r .room;
     }
@@ -216,4 +235,5 @@ says-sound vs rows s =
     let p : eqb (length (encode vs rows) % ROW) 0 ≡ true = eq-eqb (length (encode vs rows) % ROW) 0 (omega arith) in
     let q : leb (length (encode vs rows)) (mostRows * ROW) ≡ true = le-leb (length (encode vs rows)) (mostRows * ROW) (omega arith) in
     let z : scanOf (encode vs rows) ≡ scanRows (Open 0 start) (piecesOf (encode vs rows)) = rw (p, q) in
-    ap saidBy z ∙ counts-said (scanRows (Open 0 start) (piecesOf (encode vs rows))) (length vs) (table-read vs rows (g .sound) (good-chain rows vs g) (g .room))
+    ap saidBy z ∙ counts-said (scanRows (Open 0 start) (piecesOf (encode vs rows))) (length vs)
+    (table-read vs rows (g .sound) (good-chain rows vs g) (g .room))

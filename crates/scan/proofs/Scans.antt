@@ -66,7 +66,8 @@ no-version w z = go (soundVersion (versionOf w)) refl
 
 open-zero : (n : ℕ) (g : Group) (w : Words) → w .head ≡ 0 → scanRow (Open n g) w ≡ scanRow (Ended n) w
 unfolding scanRow admitOf
-open-zero n g w z = ap (λ (b : Bool). pick (isBlank w) (Ended n) (openBy n (joinIf (spareless w && b) (joinOf g (versionOf w)) No))) (no-version w z) ∙ rw and-false
+open-zero n g w z = ap (λ (b : Bool). pick (isBlank w) (Ended n) (openBy n (joinIf (spareless w && b) (joinOf g (versionOf w)) No)))
+    (no-version w z) ∙ rw and-false
 
 head-used : (w : Words) → (w .head ≡ 0 → ⊥) → isBlank w ≡ false
 unfolding isBlank
@@ -74,7 +75,8 @@ head-used w h = rw (ne-eqb (w .head) 0 h)
 
 module _ (t : List ℕ) (i : ℕ) (h : i < length t / ROW) where
   -- a free row after the used ones leaves it to the next, and any other is unsound
-  pub ended-next : (n : ℕ) → isBlank (wordsIn (rowAt t i)) ≡ true → scanRows (Ended n) (drop (i + 1) (piecesOf t)) ≡ scanRows (Ended n) (drop i (piecesOf t))
+  pub ended-next : (n : ℕ) → isBlank (wordsIn (rowAt t i)) ≡ true → scanRows (Ended n) (drop (i + 1) (piecesOf t))
+      ≡ scanRows (Ended n) (drop i (piecesOf t))
   unfolding scanRow
   ended-next n e = sym (scan-step t i (Ended n) h ∙ rw e)
 
@@ -86,10 +88,12 @@ module _ (t : List ℕ) (i : ℕ) (h : i < length t / ROW) where
   module _ (n : ℕ) (g : Group) (w : Words) (hw : w ≡ wordsIn (rowAt t i)) where
     pub open-ends : w .head ≡ 0 → scanRows (Ended n) (drop i (piecesOf t)) ≡ scanRows (Open n g) (drop i (piecesOf t))
     open-ends z =
-        scan-step t i (Ended n) h ∙ ap (λ (s : Scan). scanRows s (drop (i + 1) (piecesOf t))) (sym (open-zero n g (wordsIn (rowAt t i)) (rw hw at z)))
+        scan-step t i (Ended n) h ∙ ap (λ (s : Scan). scanRows s (drop (i + 1) (piecesOf t)))
+        (sym (open-zero n g (wordsIn (rowAt t i)) (rw hw at z)))
         ∙ sym (scan-step t i (Open n g) h)
 
-    pub open-next : (next : Group) → (w .head ≡ 0 → ⊥) → admitOf g w ≡ Yes next → scanRows (Open (n + 1) next) (drop (i + 1) (piecesOf t)) ≡ scanRows (Open n g) (drop i (piecesOf t))
+    pub open-next : (next : Group) → (w .head ≡ 0 → ⊥) → admitOf g w ≡ Yes next → scanRows (Open (n + 1) next) (drop (i + 1) (piecesOf t))
+        ≡ scanRows (Open n g) (drop i (piecesOf t))
     unfolding scanRow
     open-next next u e = sym (scan-step t i (Open n g) h ∙ rw (sym hw, head-used w u, e))
 
@@ -145,7 +149,8 @@ abbrev pub AllBytes : List (List ℕ) → Type 0
 AllBytes [] = Unit {0}
 AllBytes (b ∷ bs) = Bytes b × AllBytes bs
 
-ended-rows : (bs : List (List ℕ)) (n m : ℕ) → Even ROW bs → AllBytes bs → Counts (scanRows (Ended n) bs) m → (bs ≡ replicate (length bs) blank) × (n ≡ m)
+ended-rows : (bs : List (List ℕ)) (n m : ℕ) → Even ROW bs → AllBytes bs → Counts (scanRows (Ended n) bs) m
+    → (bs ≡ replicate (length bs) blank) × (n ≡ m)
 unfolding scanRows
 ended-rows [] n m e y h = (refl, h)
 ended-rows (b ∷ bs) n m e y h =
@@ -172,7 +177,8 @@ used-more : (b : List ℕ) (bs : List (List ℕ)) → isBlank (wordsIn b) ≡ fa
 unfolding used
 used-more b bs h = rw h
 
-open-rows : (bs : List (List ℕ)) (n : ℕ) (g : Group) (m : ℕ) → Even ROW bs → AllBytes bs → Counts (scanRows (Open n g) bs) m → Says (used bs) g n m bs
+open-rows : (bs : List (List ℕ)) (n : ℕ) (g : Group) (m : ℕ) → Even ROW bs → AllBytes bs → Counts (scanRows (Open n g) bs) m
+    → Says (used bs) g n m bs
 unfolding scanRows used unpack
 open-rows [] n g m e y h = record { rows-are = refl; chain = tt; sound = tt; count = add-zero n ∙ h; few = zero-le }
 open-rows (b ∷ bs) n g m e y h =
@@ -231,10 +237,12 @@ pub record Read (t : List ℕ) (m : ℕ) : Type 0 where
 pub read-table : (t : List ℕ) (m : ℕ) → length t ≡ rowsIn t * ROW → Bytes t → Counts (scanRows (Open 0 start) (piecesOf t)) m → Read t m
 unfolding piecesOf decode encode cells
 read-table t m e y h =
-    let says : Says (used (piecesOf t)) start 0 m (piecesOf t) = open-rows (piecesOf t) 0 start m (chunks-even ROW (rowsIn t) t (omega arith)) (chunks-bytes (rowsIn t) t y) h in
+    let says : Says (used (piecesOf t)) start 0 m (piecesOf t) =
+    open-rows (piecesOf t) 0 start m (chunks-even ROW (rowsIn t) t (omega arith)) (chunks-bytes (rowsIn t) t y) h in
     let l : length (piecesOf t) ≡ rowsIn t = rows-length t in
     record {
-      is = sym (chunks-joined ROW (rowsIn t) t e) ∙ ap joined (says .rows-are ∙ ap (λ (j : ℕ). map pack (decode t) ++ replicate (j - length (decode t)) blank) l);
+      is = sym (chunks-joined ROW (rowsIn t) t e)
+          ∙ ap joined (says .rows-are ∙ ap (λ (j : ℕ). map pack (decode t) ++ replicate (j - length (decode t)) blank) l);
       chain = says .chain;
       sound = says .sound;
       count = omega (arith, says .count);
@@ -252,27 +260,34 @@ unfolding scanRows scanRow
 ended-blanks n zero = refl
 ended-blanks n (suc m) = ap (λ (b : Bool). scanRows (pick b (Ended n) Bad) (replicate m blank)) blank-free ∙ ended-blanks n m
 
-open-row : (n : ℕ) (g : Group) (v : Version) → soundVersion v ≡ true → follows g v ≡ true → scanRow (Open n g) (wordsIn (pack v)) ≡ Open (n + 1) (next g v)
+open-row : (n : ℕ) (g : Group) (v : Version) → soundVersion v ≡ true → follows g v ≡ true
+    → scanRow (Open n g) (wordsIn (pack v)) ≡ Open (n + 1) (next g v)
 unfolding scanRow admitOf joinOf unpack
 open-row n g v s f =
     let r = sound-room v s in
     let e : versionOf (wordsIn (pack v)) ≡ v = unpack-pack v r in
     rw (pack-used v s, pack-spareless v r, e, s, f)
 
-scan-cells : (vs : List Version) (n : ℕ) (g : Group) (m : ℕ) → AllSound vs → Chain g vs → Counts (scanRows (Open n g) (map pack vs ++ replicate m blank)) (n + length vs)
+scan-cells : (vs : List Version) (n : ℕ) (g : Group) (m : ℕ) → AllSound vs → Chain g vs
+    → Counts (scanRows (Open n g) (map pack vs ++ replicate m blank)) (n + length vs)
 unfolding scanRows
 scan-cells [] n g zero a r = sym (add-zero n)
 scan-cells [] n g (suc m) a r =
-    let e : scanRows (Open n g) (replicate (suc m) blank) ≡ Ended n = ap (λ (s : Scan). scanRows s (replicate m blank)) (open-blank n g) ∙ ended-blanks n m in
+    let e : scanRows (Open n g) (replicate (suc m) blank) ≡ Ended n = ap (λ (s : Scan). scanRows s (replicate m blank)) (open-blank n g)
+    ∙ ended-blanks n m in
     subst (λ (s : Scan). Counts s (n + 0)) (sym e) (sym (add-zero n))
 scan-cells (v ∷ vs) n g m a r =
     let rest : List (List ℕ) = map pack vs ++ replicate m blank in
-    let e : scanRows (Open n g) (pack v ∷ rest) ≡ scanRows (Open (n + 1) (next g v)) rest = ap (λ (s : Scan). scanRows s rest) (open-row n g v (a .0) (r .0)) in
+    let e : scanRows (Open n g) (pack v ∷ rest) ≡ scanRows (Open (n + 1) (next g v)) rest =
+    ap (λ (s : Scan). scanRows s rest) (open-row n g v (a .0) (r .0)) in
     let c : n + 1 + length vs ≡ n + suc (length vs) = omega arith in
-    subst (λ (s : Scan). Counts s (n + suc (length vs))) (sym e) (subst (Counts (scanRows (Open (n + 1) (next g v)) rest)) c (scan-cells vs (n + 1) (next g v) m (a .1) (r .1)))
+    subst (λ (s : Scan). Counts s (n + suc (length vs))) (sym e)
+    (subst (Counts (scanRows (Open (n + 1) (next g v)) rest)) c (scan-cells vs (n + 1) (next g v) m (a .1) (r .1)))
 
-pub table-read : (vs : List Version) (n : ℕ) → AllSound vs → Chain start vs → length vs ≤ n → Counts (scanRows (Open 0 start) (piecesOf (encode vs n))) (length vs)
+pub table-read : (vs : List Version) (n : ℕ) → AllSound vs → Chain start vs → length vs ≤ n
+    → Counts (scanRows (Open 0 start) (piecesOf (encode vs n))) (length vs)
 unfolding cells
 table-read vs n a r l =
     rw (rows-encode vs n l)
-    (subst (Counts (scanRows (Open 0 start) (map pack vs ++ replicate (n - length vs) blank))) (zero-add (length vs)) (scan-cells vs 0 start (n - length vs) a r))
+    (subst (Counts (scanRows (Open 0 start) (map pack vs ++ replicate (n - length vs) blank))) (zero-add (length vs))
+    (scan-cells vs 0 start (n - length vs) a r))

@@ -9,7 +9,7 @@ ghost use lib.Dec.{eqb};
 ghost use Rattle.model.specs.Sound.{isWorked, live, sends, worked};
 ghost use Rattle.row.specs.Layout.{flag};
 ghost use Rattle.scan.specs.Join.{joinOf};
-ghost use Rattle.scan.specs.Carried.{marksOf, groupOf, joinedBy, Few};
+ghost use Rattle.scan.specs.Carried.{bitsOf, groupOf, joinedBy, Few};
 
 // The last version's place in the order, and whether a version of its number is live, sending, worked.
 pub struct Group {
@@ -25,17 +25,17 @@ pub enum Joined {
 }
 
 // The same in two words: what the number has as bits.
-pub struct Seen {
+pub struct Bits {
     pub last: u64,
     pub had: u64,
 }
 
 pub enum Next {
     Stop,
-    Go(Seen),
+    Go(Bits),
 }
 
-pub fn group_of(s: Seen) -> Group
+pub fn group_of(s: Bits) -> Group
     ensures { λ r. ⌜ r ≡ groupOf s ⌝ }
 {
     Group {
@@ -60,8 +60,8 @@ fn bit(b: bool) -> u64
 }
 
 // What v has of what a number may have once: live 1, sending 2, worked 4.
-fn marks(v: Version) -> u64
-    ensures { λ r. ⌜ (r ≡ marksOf (live v) (sends v) (worked v)) × (r < 8) ⌝ }
+fn bits_of(v: Version) -> u64
+    ensures { λ r. ⌜ (r ≡ bitsOf (live v) (sends v) (worked v)) × (r < 8) ⌝ }
 {
     let live = bit(v.live);
     let sends = bit(v.status == status::SENDING);
@@ -70,24 +70,24 @@ fn marks(v: Version) -> u64
 }
 
 // What the versions of this number had so far: nothing, if it is another number than the last one's.
-fn had_of(s: Seen, tn: Tn) -> u64
+fn had_of(s: Bits, tn: Tn) -> u64
     requires { ⌜ s .had < 8 ⌝ }
     ensures { λ r. ⌜ (r ≡ cond (eqb (tn .0) (s .last / 65536)) (s .had) 0) × (r < 8) ⌝ }
 {
     if tn.0 == s.last / 65536 { s.had } else { 0 }
 }
 
-pub fn follow(s: Seen, v: Version) -> Next
+pub fn follow(s: Bits, v: Version) -> Next
     requires { ⌜ (v .id .tn .0 < 17179869184) × (s .had < 8) ⌝ }
     ensures { λ n. ⌜ (joinedBy n ≡ joinOf (groupOf s) v) × Few n ⌝ }
 {
     let tn = v.id.tn;
     let last = tn.0 * 65536 + v.id.number as u64;
-    let has = marks(v);
+    let has = bits_of(v);
     let had = had_of(s, tn);
     if s.last < last {
         if had & has == 0 {
-            return Next::Go(Seen {
+            return Next::Go(Bits {
                 last,
                 had: had + has,
             });

@@ -1,7 +1,7 @@
 // The soundness of a table: each row by itself, the order of the used ones, and nothing but zeros after them. One pass.
+use crate::join::Bits;
 use crate::join::Group;
 use crate::join::Next;
-use crate::join::Seen;
 use model::limit;
 use words::ROW;
 use words::Words;
@@ -33,7 +33,7 @@ pub enum Soundness {
 }
 
 // A row that is not free.
-fn admit(s: Seen, w: Words) -> Next
+fn admit(s: Bits, w: Words) -> Next
     requires { ⌜ s .had < 8 ⌝ }
     ensures { λ n. ⌜ (joinedBy n ≡ admitOf (groupOf s) w) × Few n ⌝ }
 {
@@ -93,7 +93,7 @@ fn over(t: &[u8]) -> Scan
     ensures { λ r. ⌜ r ≡ scanRows (Scan.Open 0 start) (piecesOf (now (t .entry))) ⌝ }
 {
     let n = t.len() / ROW;
-    let mut s = Seen { last: 0, had: 0 };
+    let mut s = Bits { last: 0, had: 0 };
     let mut i = 0;
     while i < n {
         let w = rows::words(t, i);

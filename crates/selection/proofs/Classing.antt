@@ -10,8 +10,6 @@ use Rattle.model.specs.Books.{Books, present, runs, partnerOf}
 use Rattle.model.specs.Selection.{skipped, classOf, isSelected, selects}
 use Rattle.model.specs.declared.Class.{Class}
 use Rattle.model.specs.declared.Class.the-variants.{Selected, NotPresent, NoLocal, FilterOnly, FiltersBoth}
-use Rattle.selection.specs.declared.Classes.{Classes}
-use Rattle.selection.specs.Classes.{classIn}
 
 -- by present, Local SMS, selected, in a pair
 abbrev classBy : Bool → Bool → Bool → Bool → Class

@@ -45,14 +45,16 @@ module _ (word set w s : ℕ) (l : Left word set w s) where
 abbrev stray : ℕ → ℕ → Bool
 stray w s = eqb (s % 2) 0 && not (eqb (w % 8) 0)
 
-stray-next : (word set w s n : ℕ) → w < 8 ^ n → digitsWait n w s ≡ digitsWait 21 word set → (w ≡ 0 → ⊥) → stray w s ≡ false → Left word set (w / 8) (s / 2)
+stray-next : (word set w s n : ℕ) → w < 8 ^ n → digitsWait n w s ≡ digitsWait 21 word set → (w ≡ 0 → ⊥) → stray w s ≡ false
+    → Left word set (w / 8) (s / 2)
 unfolding digitsWait
 stray-next word set w s zero f q nz t = absurd (nz (omega arith))
 stray-next word set w s (suc n) f q nz t =
     let g : w < 8 ^ n * 8 = rw pow-suc at f in
     record { digits = n; fits = omega arith; same = sym (ap (λ (b : Bool). not b && digitsWait n (w / 8) (s / 2)) t) ∙ q }
 
-stray-found : (word set w s n : ℕ) → w < 8 ^ n → digitsWait n w s ≡ digitsWait 21 word set → (w ≡ 0 → ⊥) → stray w s ≡ true → false ≡ digitsWait 21 word set
+stray-found : (word set w s n : ℕ) → w < 8 ^ n → digitsWait n w s ≡ digitsWait 21 word set → (w ≡ 0 → ⊥) → stray w s ≡ true
+    → false ≡ digitsWait 21 word set
 unfolding digitsWait
 stray-found word set w s zero f q nz t = absurd (nz (omega arith))
 stray-found word set w s (suc n) f q nz t = sym (ap (λ (b : Bool). not b && digitsWait n (w / 8) (s / 2)) t) ∙ q
@@ -144,7 +146,8 @@ here : (x y w s b q : ℕ) → x ≡ w / 2 ^ (3 * q) → y ≡ s / 2 ^ (b + q) �
 unfolding octal member
 here x y w s b q e f =
     let k : q ≡ b + q - b = omega arith in
-    not-stray (y % 2) (eqb (x % 8) 0) (mod-lt y (lit< tt)) ∙ ap₂ (λ (i j : ℕ). eqb (i % 2) 1 || eqb (j % 8) 0) f (e ∙ ap (λ (i : ℕ). w / 2 ^ (3 * i)) k)
+    not-stray (y % 2) (eqb (x % 8) 0) (mod-lt y (lit< tt))
+    ∙ ap₂ (λ (i j : ℕ). eqb (i % 2) 1 || eqb (j % 8) 0) f (e ∙ ap (λ (i : ℕ). w / 2 ^ (3 * i)) k)
 
 digits-run : (n q b w s x y : ℕ) → x ≡ w / 2 ^ (3 * q) → y ≡ s / 2 ^ (b + q) → digitsWait n x y ≡ run (digitFits w s b) n (b + q)
 unfolding digitsWait run
@@ -152,8 +155,10 @@ digits-run zero q b w s x y e f = refl
 digits-run (suc n) q b w s x y e f =
     let k : b + suc q ≡ suc (b + q) = omega arith in
     let t : 3 * suc q ≡ 3 * q + 3 = omega arith in
-    let e' : x / 8 ≡ w / 2 ^ (3 * suc q) = ap (λ (i : ℕ). i / 8) e ∙ div-div-eq-div-mul w (2 ^ (3 * q)) 8 ∙ ap (λ (i : ℕ). w / i) (sym (ap (λ (i : ℕ). 2 ^ i) t ∙ pow-add 2 (3 * q) 3)) in
-    let f' : y / 2 ≡ s / 2 ^ (b + suc q) = ap (λ (i : ℕ). i / 2) f ∙ div-div-eq-div-mul s (2 ^ (b + q)) 2 ∙ ap (λ (i : ℕ). s / i) (sym (ap (λ (i : ℕ). 2 ^ i) k ∙ pow-suc 2 (b + q))) in
+    let e' : x / 8 ≡ w / 2 ^ (3 * suc q) = ap (λ (i : ℕ). i / 8) e ∙ div-div-eq-div-mul w (2 ^ (3 * q)) 8
+    ∙ ap (λ (i : ℕ). w / i) (sym (ap (λ (i : ℕ). 2 ^ i) t ∙ pow-add 2 (3 * q) 3)) in
+    let f' : y / 2 ≡ s / 2 ^ (b + suc q) = ap (λ (i : ℕ). i / 2) f ∙ div-div-eq-div-mul s (2 ^ (b + q)) 2
+    ∙ ap (λ (i : ℕ). s / i) (sym (ap (λ (i : ℕ). 2 ^ i) k ∙ pow-suc 2 (b + q))) in
     ap₂ (λ (i j : Bool). i && j) (here x y w s b q e f) (digits-run n (suc q) b w s (x / 8) (y / 2) e' f' ∙ ap (run (digitFits w s b) n) k)
 
 used-low : (r : Retries) (p : ℕ) → p ≤ 21 → used r p ≡ octal (p - 1) (r .low)
@@ -171,7 +176,8 @@ used-high r p l =
     rw (lt-leb p 21 k, lt-leb p 42 l)
 
 -- the systems of one word, from b on
-word-waits : (c : Broadcast) (n b w set : ℕ) → set ≡ c .waiting / 2 ^ b → ((p : ℕ) → b ≤ p → p < n + b → used (c .retries) p ≡ octal (p - b) w)
+word-waits : (c : Broadcast) (n b w set : ℕ) → set ≡ c .waiting / 2 ^ b
+    → ((p : ℕ) → b ≤ p → p < n + b → used (c .retries) p ≡ octal (p - b) w)
     → run (waits c) n b ≡ digitsWait n (w % 8 ^ n) set
 word-waits c n b w set e h =
     let z : b + 0 ≡ b = omega arith in
@@ -183,11 +189,13 @@ word-waits c n b w set e h =
 -- the retries fit where each word's digits do
 pub three-words : (c : Broadcast)
     → retriesFit c
-    ≡ (digitsWait 21 (c .retries .low % 9223372036854775808) (c .waiting / 2) && digitsWait 21 (c .retries .mid % 9223372036854775808) (c .waiting / 4194304) && digitsWait 21 (c .retries .high % 9223372036854775808) (c .waiting / 8796093022208))
+    ≡ (digitsWait 21 (c .retries .low % 9223372036854775808) (c .waiting / 2) && digitsWait 21 (c .retries .mid % 9223372036854775808)
+    (c .waiting / 4194304) && digitsWait 21 (c .retries .high % 9223372036854775808) (c .waiting / 8796093022208))
 unfolding retriesFit
 three-words c =
     every-run (waits c) 21 42 ∙ ap₂ (λ (x y : Bool). x && y)
     (every-run (waits c) 21 21 ∙ ap₂ (λ (x y : Bool). x && y)
-    (every-run (waits c) 21 0 ∙ none-first (waits c) (run (waits c) 21 1) ∙ word-waits c 21 1 (c .retries .low) (c .waiting / 2) refl (λ p l m. used-low (c .retries) p (omega arith)))
+    (every-run (waits c) 21 0 ∙ none-first (waits c) (run (waits c) 21 1) ∙ word-waits c 21 1 (c .retries .low) (c .waiting / 2) refl
+    (λ p l m. used-low (c .retries) p (omega arith)))
     (word-waits c 21 22 (c .retries .mid) (c .waiting / 4194304) refl (λ p l m. used-mid (c .retries) p (omega arith) (omega arith))))
     (word-waits c 21 43 (c .retries .high) (c .waiting / 8796093022208) refl (λ p l m. used-high (c .retries) p (omega arith)))

@@ -17,8 +17,10 @@ ghost use mathlib.Core.Path.{_≡_};
 ghost use mathlib.Core.Bool.{cond};
 ghost use Prim.Native.Nat.{_<_};
 ghost use lib.Dec.{eqb};
-ghost use Rattle.model.specs.Creates.{newJoined, oldJoined, newAbsent, oldAbsent, newIn, oldIn, byNew, newFrom, oldFrom, statusBy, noBroadcast, freshNumbered, fits, firstDue, agrees, concurred};
-ghost use Rattle.model.specs.Changes.{newModified, oldModified, modified, turned, cancelled, acknowledged, ownCancel, resolved, windowTurned, windowMarked, windowSpent, awaitsOld};
+ghost use Rattle.model.specs.Creates.{newJoined, oldJoined, newAbsent, oldAbsent, newIn, oldIn, byNew, newFrom, oldFrom, statusBy};
+ghost use Rattle.model.specs.Creates.{noBroadcast, freshNumbered, fits, firstDue, agrees, concurred};
+ghost use Rattle.model.specs.Changes.{newModified, oldModified, modified, turned, cancelled, acknowledged, ownCancel, resolved};
+ghost use Rattle.model.specs.Changes.{windowTurned, windowMarked, windowSpent, awaitsOld};
 ghost use Rattle.model.specs.Standing.{standingOf};
 
 fn standing_by(npac: bool, new: bool, old: bool) -> u8

@@ -8,8 +8,10 @@ use mathlib.Core.Bool.{Bool, true, false, _&&_, and-false}
 use Rattle.model.specs.declared.Version.{Version}
 use Rattle.model.specs.Numbers.{tenDigits, isProvider, isSet, isTime, isNumber}
 use Rattle.model.proofs.Lists.{conj, conj-at, conj-all}
-use Rattle.model.specs.Basics.{All, none, with}
-use Rattle.model.specs.Sound.{retriesInRange, castInRange, inRange, sidesDiffer, newWhole, oldWhole, oneCreated, sidesNeeded, causeFits, cancellerFits, setsApart, retriesFit, startFits, waitingFits, purposeFits, liveFits, liveConfirmed, soundVersion}
+use Rattle.model.specs.Basics.{none, with}
+use Rattle.model.specs.Sound.{retriesInRange, castInRange, inRange, sidesDiffer, newWhole, oldWhole, oneCreated, sidesNeeded, causeFits}
+use Rattle.model.specs.Sound.{cancellerFits, setsApart, retriesFit, startFits, waitingFits, purposeFits, liveFits, liveConfirmed}
+use Rattle.model.specs.Sound.{soundVersion}
 use Rattle.sound.specs.Marks.{marksFit}
 use Rattle.sets.specs.Order.{setsFit, retriesSound}
 use Rattle.sound.specs.Order.{outlineFits, shapeFits, timesFit, castFits}
@@ -21,16 +23,21 @@ same false false f g = refl
 
 module _ (v : Version) where
   abbrev ranges : List Bool
-  ranges = tenDigits (v .id .tn .0) ∷ isNumber (v .id .number) ∷ leb (v .status) 8 ∷ isTime (v .stamp) ∷ isProvider (v .new .provider) ∷ isProvider (v .old .provider) ∷ leb (v .canceller) 2 ∷ castInRange (v .cast) ∷ []
+  ranges = tenDigits (v .id .tn .0) ∷ isNumber (v .id .number) ∷ leb (v .status) 8 ∷ isTime (v .stamp) ∷ isProvider (v .new .provider)
+      ∷ isProvider (v .old .provider) ∷ leb (v .canceller) 2 ∷ castInRange (v .cast) ∷ []
 
   abbrev casts : List Bool
-  casts = leb (v .cast .purpose) 3 ∷ ltb (v .cast .start) (2 ^ 32) ∷ isSet (v .cast .confirmed) ∷ isSet (v .cast .waiting) ∷ isSet (v .cast .failed) ∷ retriesInRange (v .cast .retries) ∷ []
+  casts = leb (v .cast .purpose) 3 ∷ ltb (v .cast .start) (2 ^ 32) ∷ isSet (v .cast .confirmed) ∷ isSet (v .cast .waiting)
+      ∷ isSet (v .cast .failed) ∷ retriesInRange (v .cast .retries) ∷ []
 
   abbrev clauses : List Bool
-  clauses = inRange v ∷ sidesDiffer v ∷ newWhole (v .new) ∷ oldWhole (v .old) ∷ oneCreated v ∷ sidesNeeded v ∷ causeFits (v .old) ∷ cancellerFits v ∷ setsApart (v .cast) ∷ retriesFit (v .cast) ∷ startFits v ∷ waitingFits v ∷ purposeFits v ∷ liveFits v ∷ liveConfirmed v ∷ []
+  clauses = inRange v ∷ sidesDiffer v ∷ newWhole (v .new) ∷ oldWhole (v .old) ∷ oneCreated v ∷ sidesNeeded v ∷ causeFits (v .old)
+      ∷ cancellerFits v ∷ setsApart (v .cast) ∷ retriesFit (v .cast) ∷ startFits v ∷ waitingFits v ∷ purposeFits v
+      ∷ liveFits v ∷ liveConfirmed v ∷ []
 
   abbrev outline : List Bool
-  outline = tenDigits (v .id .tn .0) ∷ isNumber (v .id .number) ∷ leb (v .status) 8 ∷ isProvider (v .new .provider) ∷ isProvider (v .old .provider) ∷ leb (v .canceller) 2 ∷ leb (v .cast .purpose) 3 ∷ []
+  outline = tenDigits (v .id .tn .0) ∷ isNumber (v .id .number) ∷ leb (v .status) 8 ∷ isProvider (v .new .provider)
+      ∷ isProvider (v .old .provider) ∷ leb (v .canceller) 2 ∷ leb (v .cast .purpose) 3 ∷ []
 
   abbrev marks : List Bool
   marks = oneCreated v ∷ sidesNeeded v ∷ purposeFits v ∷ liveFits v ∷ []
@@ -59,7 +66,8 @@ module _ (v : Version) where
       let c : (i : ℕ) → getD clauses i true ≡ true = conj-at clauses e in
       let r : (i : ℕ) → getD ranges i true ≡ true = conj-at ranges (c 0) in
       let k : (i : ℕ) → getD casts i true ≡ true = conj-at casts (r 7) in
-      let o : outlineFits v ≡ true = conj-all outline (with (r 0) (with (r 1) (with (r 2) (with (r 4) (with (r 5) (with (r 6) (with (k 0) none))))))) in
+      let o : outlineFits v ≡ true =
+      conj-all outline (with (r 0) (with (r 1) (with (r 2) (with (r 4) (with (r 5) (with (r 6) (with (k 0) none))))))) in
       let m : marksFit v ≡ true = conj-all marks (with (c 4) (with (c 5) (with (c 12) (with (c 13) none)))) in
       let d : conj sides ≡ true = conj-all sides (with (c 1) (with (c 2) (with (c 3) (with (c 6) (with (c 7) none))))) in
       let t : timesFit v ≡ true = conj-all times (with (r 3) (with (k 1) (with (c 10) (with (c 11) none)))) in
@@ -80,9 +88,14 @@ module _ (v : Version) where
       let t : (i : ℕ) → getD times i true ≡ true = conj-at times (f 0) in
       let s : (i : ℕ) → getD sets i true ≡ true = conj-at sets (f 1) in
       let u : (i : ℕ) → getD retries i true ≡ true = conj-at retries (f 3) in
-      let k : castInRange (v .cast) ≡ true = conj-all casts (with (o 6) (with (t 1) (with (s 0) (with (s 1) (with (s 2) (with (u 0) none)))))) in
-      let r : inRange v ≡ true = conj-all ranges (with (o 0) (with (o 1) (with (o 2) (with (t 0) (with (o 3) (with (o 4) (with (o 5) (with k none)))))))) in
-      conj-all clauses (with r (with (d 0) (with (d 1) (with (d 2) (with (m 0) (with (m 1) (with (d 3) (with (d 4) (with (s 3) (with (u 1) (with (t 2) (with (t 3) (with (m 2) (with (m 3) (with (f 2) none)))))))))))))))
+      let k : castInRange (v .cast) ≡ true =
+      conj-all casts (with (o 6) (with (t 1) (with (s 0) (with (s 1) (with (s 2) (with (u 0) none)))))) in
+      let r : inRange v ≡ true =
+      conj-all ranges (with (o 0) (with (o 1) (with (o 2) (with (t 0) (with (o 3) (with (o 4) (with (o 5) (with k none)))))))) in
+      conj-all clauses (with r
+      (with (d 0) (with (d 1) (with (d 2)
+      (with (m 0) (with (m 1) (with (d 3)
+      (with (d 4) (with (s 3) (with (u 1) (with (t 2) (with (t 3) (with (m 2) (with (m 3) (with (f 2) none)))))))))))))))
 
 -- first all but the broadcast, then the broadcast
 pub sound-order : (v : Version) → soundVersion v ≡ (shapeFits v && castFits v)

@@ -16,7 +16,8 @@ use Rattle.model.proofs.SoundSets.{every-at}
 abbrev pub rule : ℕ → ℕ → Bool → Bool → Bool → Bool
 rule s p l n o =
     (n || o) && (implies (eqb s 1) o && implies (eqb s 2) (n && o) && implies (isPurposed s || eqb s 7) n)
-    && (iff (ltb 0 p) (isPurposed s) && implies (among s (4 ∷ 5 ∷ [])) (eqb p 1)) && cond (eqb s 3) (l || eqb p 1) (iff l (among s (5 ∷ 6 ∷ [])))
+    && (iff (ltb 0 p) (isPurposed s) && implies (among s (4 ∷ 5 ∷ [])) (eqb p 1)) && cond (eqb s 3) (l || eqb p 1)
+    (iff l (among s (5 ∷ 6 ∷ [])))
 
 abbrev pub entry : ℕ → ℕ → Bool → Bool → Bool → Bool
 entry s p l n o = eqb (getD fitBits s 0 / 2 ^ (p * 8 + cond l 1 0 * 4 + cond n 1 0 * 2 + cond o 1 0) % 2) 1
@@ -25,11 +26,13 @@ abbrev agree : ℕ → ℕ → Bool → Bool → Bool → Bool
 agree s p l n o = iff (entry s p l n o) (rule s p l n o)
 
 abbrev cases : (Bool → Bool → Bool → Bool) → List Bool
-cases f = f true true true ∷ f true true false ∷ f true false true ∷ f true false false ∷ f false true true ∷ f false true false ∷ f false false true ∷ f false false false ∷ []
+cases f = f true true true ∷ f true true false ∷ f true false true ∷ f true false false ∷ f false true true ∷ f false true false
+    ∷ f false false true ∷ f false false false ∷ []
 
 unfoldable right : ℕ → ℕ → Bool
 right s p =
-    agree s p true true true && agree s p true true false && agree s p true false true && agree s p true false false && agree s p false true true && agree s p false true false
+    agree s p true true true && agree s p true true false && agree s p true false true && agree s p true false false
+    && agree s p false true true && agree s p false true false
     && agree s p false false true && agree s p false false false
 
 right-at : (s p : ℕ) (l n o : Bool) → right s p ≡ true → agree s p l n o ≡ true
@@ -54,11 +57,14 @@ iff-same false false e = refl
 
 pub entry-rule : (s p : ℕ) (l n o : Bool) → s ≤ 8 → p ≤ 3 → entry s p l n o ≡ rule s p l n o
 entry-rule s p l n o h k =
-    let row : every (λ (q : ℕ). right (s + 1 - 1) (q - 1)) 4 ≡ true = every-at (λ (r : ℕ). every (λ (q : ℕ). right (r - 1) (q - 1)) 4) 9 (s + 1) computed (omega arith) (omega arith) in
-    let cell : right (s + 1 - 1) (p + 1 - 1) ≡ true = every-at (λ (q : ℕ). right (s + 1 - 1) (q - 1)) 4 (p + 1) row (omega arith) (omega arith) in
+    let row : every (λ (q : ℕ). right (s + 1 - 1) (q - 1)) 4 ≡ true =
+    every-at (λ (r : ℕ). every (λ (q : ℕ). right (r - 1) (q - 1)) 4) 9 (s + 1) computed (omega arith) (omega arith) in
+    let cell : right (s + 1 - 1) (p + 1 - 1) ≡ true =
+    every-at (λ (q : ℕ). right (s + 1 - 1) (q - 1)) 4 (p + 1) row (omega arith) (omega arith) in
     let a : s + 1 - 1 ≡ s = omega arith in
     let b : p + 1 - 1 ≡ p = omega arith in
-    iff-same (entry s p l n o) (rule s p l n o) (right-at s p l n o (subst (λ (i : ℕ). right s i ≡ true) b (subst (λ (i : ℕ). right i (p + 1 - 1) ≡ true) a cell)))
+    iff-same (entry s p l n o) (rule s p l n o)
+    (right-at s p l n o (subst (λ (i : ℕ). right s i ≡ true) b (subst (λ (i : ℕ). right i (p + 1 - 1) ≡ true) a cell)))
 
 -- a number that is none of the first ones is above them
 pub above : (k s : ℕ) → k ≤ s → (s ≡ k → ⊥) → k + 1 ≤ s

@@ -1,6 +1,6 @@
 -- The clauses of a sound version in the groups in which the code asks them.
 -- Assumes nothing.
-use Prim.Native.Nat.{ℕ, _^_}
+use Prim.Native.Nat.{_^_}
 use mathlib.Core.Bool.{Bool, _&&_}
 use lib.Dec.{ltb, leb}
 use Rattle.model.specs.declared.Version.{Version}
@@ -12,7 +12,8 @@ use Rattle.sound.specs.Marks.{marksFit}
 -- the ranges of all but the times, the sets and the retries [V1]
 unfoldable pub outlineFits : Version → Bool
 outlineFits v =
-    tenDigits (v .id .tn .0) && isNumber (v .id .number) && leb (v .status) 8 && isProvider (v .new .provider) && isProvider (v .old .provider) && leb (v .canceller) 2
+    tenDigits (v .id .tn .0) && isNumber (v .id .number) && leb (v .status) 8 && isProvider (v .new .provider)
+    && isProvider (v .old .provider) && leb (v .canceller) 2
     && leb (v .cast .purpose) 3
 
 -- all but the broadcast

@@ -7,8 +7,8 @@ ghost use Prim.Native.Nat.{_≤_};
 ghost use Rattle.sound.specs.Marks.{fitBits, marksFit};
 ghost use lib.ListN.{getD};
 
-// For each status the places that fit: purpose * 8 + live * 4 + new side created * 2 + old side created. A match is compiled to a table that
-// stands in the program; a constant array would be made anew at each call.
+// For each status the places that fit: purpose * 8 + live * 4 + new side created * 2 + old side created. A match is compiled to a table
+// that stands in the program; a constant array would be made anew at each call.
 fn places(status: u8) -> u64
     requires { ⌜ status ≤ 8 ⌝ }
     ensures { λ r. ⌜ r ≡ getD fitBits status 0 ⌝ }

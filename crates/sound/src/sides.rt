@@ -1,5 +1,5 @@
-// What the two sides of a version have. Each test is the same for a side that has created and for one that has not: a branch on that mark would go
-// either way from row to row.
+// What the two sides of a version have. Each test is the same for a side that has created and for one that has not: a branch on that mark
+// would go either way from row to row.
 use crate::ranges;
 use model::NewSide;
 use model::OldSide;

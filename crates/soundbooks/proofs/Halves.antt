@@ -35,5 +35,6 @@ module _ (bs : List ℕ) (at i a b : ℕ) (h : Halves bs at i a b) where
       let q : b ≡ 0 = omega (arith, h .low) in
       false≢true (sym e ∙ ap₂ (λ (x y : Bool). x && y) (eq-eqb a 0 p) (eq-eqb b 0 q))
 
-  pub halves-code : (r : Bool) (c : ℕ) → r ≡ (eqb a c || eqb b c) → r ≡ (eqb (placeOf 8 at bs i / 2 ^ 32) c || eqb (placeOf 8 at bs i % 2 ^ 32) c)
+  pub halves-code : (r : Bool) (c : ℕ) → r ≡ (eqb a c || eqb b c)
+      → r ≡ (eqb (placeOf 8 at bs i / 2 ^ 32) c || eqb (placeOf 8 at bs i % 2 ^ 32) c)
   halves-code r c e = e ∙ sym (ap₂ (λ (x y : ℕ). eqb x c || eqb y c) (h .high) (h .low))

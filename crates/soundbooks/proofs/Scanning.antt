@@ -31,7 +31,8 @@ scan-is good w (suc m) i last = go (eqb (w i) 0) (scan-is good w m (suc i) (w i)
         → cond b (freeFrom w m (suc i)) (good last (w i) (usedFrom w m (suc i)) && scan good w m (suc i) (w i))
         ≡ (cond b (freeFrom w m (suc i)) (packedFrom w m (suc i)) && chain good last (cond b [] (w i ∷ usedFrom w m (suc i))))
     go true h = one (freeFrom w m (suc i))
-    go false h = ap (λ (a : Bool). good last (w i) (usedFrom w m (suc i)) && a) h ∙ swap (good last (w i) (usedFrom w m (suc i))) (packedFrom w m (suc i)) (chain good (w i) (usedFrom w m (suc i)))
+    go false h = ap (λ (a : Bool). good last (w i) (usedFrom w m (suc i)) && a) h
+        ∙ swap (good last (w i) (usedFrom w m (suc i))) (packedFrom w m (suc i)) (chain good (w i) (usedFrom w m (suc i)))
 
 -- ---- the steps of the pass, as the code takes them: place i is x, of n in all
 
@@ -51,7 +52,8 @@ module _ (good : Test) (w : ℕ → ℕ) (n i last x : ℕ) (h : i < n) (hx : x 
   pub scan-bad : (r : Bool) → (x ≡ 0 → ⊥) → r ≡ good last x (restOf w n (i + 1)) → r ≡ false → scan good w (n - i) i last ≡ false
   scan-bad r nz hr f = scan-used nz ∙ ap (λ (b : Bool). b && scan good w (n - (i + 1)) (i + 1) x) (sym hr ∙ f)
 
-  pub scan-next : (r : Bool) → (x ≡ 0 → ⊥) → r ≡ good last x (restOf w n (i + 1)) → r ≡ true → scan good w (n - i) i last ≡ scan good w (n - (i + 1)) (i + 1) x
+  pub scan-next : (r : Bool) → (x ≡ 0 → ⊥) → r ≡ good last x (restOf w n (i + 1)) → r ≡ true
+      → scan good w (n - i) i last ≡ scan good w (n - (i + 1)) (i + 1) x
   scan-next r nz hr t = scan-used nz ∙ ap (λ (b : Bool). b && scan good w (n - (i + 1)) (i + 1) x) (sym hr ∙ t)
 
 pub scan-end : (good : Test) (w : ℕ → ℕ) (n i last : ℕ) → n ≤ i → scan good w (n - i) i last ≡ true
@@ -61,7 +63,8 @@ scan-end good w n i last h =
     rw e
 
 -- a test that does not look at the place before
-pub scan-forgets : (good : ℕ → List ℕ → Bool) (w : ℕ → ℕ) (m i a b : ℕ) → scan (λ (last x : ℕ) (xs : List ℕ). good x xs) w m i a ≡ scan (λ (last x : ℕ) (xs : List ℕ). good x xs) w m i b
+pub scan-forgets : (good : ℕ → List ℕ → Bool) (w : ℕ → ℕ) (m i a b : ℕ) → scan (λ (last x : ℕ) (xs : List ℕ). good x xs) w m i a
+    ≡ scan (λ (last x : ℕ) (xs : List ℕ). good x xs) w m i b
 unfolding scan
 scan-forgets good w zero i a b = refl
 scan-forgets good w (suc m) i a b = refl

@@ -45,8 +45,8 @@ fn good_split(books: &[u8], w: u64, i: usize) -> bool
     (one != other) & clear & (known & known_other)
 }
 
-// One pass over the filters or the codes: places of four bytes from at. A place is tested one turn after it is read: so the compiler reads it
-// with one load.
+// One pass over the filters or the codes: places of four bytes from at. A place is tested one turn after it is read: so the compiler reads
+// it with one load.
 fn sound_rows(filters: bool, marks: Marks, books: &[u8], at: usize) -> bool
     requires { ⌜ at + 4 * rowPlaces + 4 ≤ length (now books) ⌝ }
     ensures { λ r. ⌜ r ≡ scan (rowTest filters marks) (placeOf 4 at (now (books .entry))) rowPlaces 0 0 ⌝ }

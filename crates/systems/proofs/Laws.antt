@@ -3,7 +3,8 @@
 use mathlib.Core.Path.{_≡_, refl, sym, ap, ap₂, _∙_, subst}
 use mathlib.Core.Bool.{Bool, true, false, cond, _&&_}
 use Prim.Native.Nat.{ℕ, zero, suc, _+_, _-_, _*_, _/_, _%_, _^_, _≤_, _<_}
-use native.Mathlib.Nat.{mod-lt, div-add-mod', pow-suc, le-div-iff-mul-le, one-mul, add-zero, add-mul, mod-eq-of-lt, mod-one, div-eq-of-lt, add-div-right, add-mul-div-right, lt-of-lt-of-le, pow-le-pow-right, pow-zero, div-one}
+use native.Mathlib.Nat.{mod-lt, div-add-mod', pow-suc, le-div-iff-mul-le, one-mul, add-zero, add-mul, mod-eq-of-lt, mod-one, div-eq-of-lt}
+use native.Mathlib.Nat.{add-div-right, add-mul-div-right, lt-of-lt-of-le, pow-le-pow-right, pow-zero, div-one}
 use native.Mathlib.Numerals.{one-add}
 use native.Mathlib.Omega.{arith}
 use borrow.Author.Tests.{eqb-true, eqb-false, eq-eqb, ltb-true, ltb-false}
@@ -123,7 +124,8 @@ unfolding digit
 digit-below m k p h =
     let e : suc (k - (p + 1)) + p ≡ k = omega arith in
     let a : 2 ^ k ≡ 2 ^ suc (k - (p + 1)) * 2 ^ p = ap (λ (x : ℕ). 2 ^ x) (sym e) ∙ pow-add 2 (suc (k - (p + 1))) p in
-    let b : (m + 2 ^ suc (k - (p + 1)) * 2 ^ p) / 2 ^ p ≡ m / 2 ^ p + 2 ^ suc (k - (p + 1)) = add-mul-div-right m (2 ^ suc (k - (p + 1))) (pow-pos p) in
+    let b : (m + 2 ^ suc (k - (p + 1)) * 2 ^ p) / 2 ^ p ≡ m / 2 ^ p + 2 ^ suc (k - (p + 1)) =
+    add-mul-div-right m (2 ^ suc (k - (p + 1))) (pow-pos p) in
     rw (a, b) (omega (arith, pow-suc 2 (k - (p + 1))))
 
 same-digit : (s t p : ℕ) → digit s p ≡ digit t p → member s p ≡ member t p
@@ -156,7 +158,8 @@ mask-member f (suc n) p h k = go (mask-member f n p h) (eqb p (suc n)) refl
     low true l = same-digit _ _ p (digit-below (maskOf f n) (suc n) p l)
     low false l = rw add-zero
 
-    go : (p ≤ n → member (maskOf f n) p ≡ f p) → (b : Bool) → eqb p (suc n) ≡ b → member (maskOf f n + cond (f (suc n)) (2 ^ suc n) 0) p ≡ f p
+    go : (p ≤ n → member (maskOf f n) p ≡ f p) → (b : Bool) → eqb p (suc n) ≡ b
+        → member (maskOf f n + cond (f (suc n)) (2 ^ suc n) 0) p ≡ f p
     go ih true e = rw (eqb-true p (suc n) e) (top (f (suc n)) refl)
     go ih false e =
         let x : (p ≡ suc n → ⊥) = eqb-false p (suc n) e in
@@ -181,7 +184,8 @@ with-other s p q h ne = go (ltb q p) refl
         let a : (x : ℕ) → x / 2 ^ p / 2 / 2 ^ (q - (p + 1)) ≡ x / 2 ^ q
         = λ x. shr-shr (x / 2 ^ p) 1 (q - (p + 1)) ∙ shr-shr x p (1 + (q - (p + 1))) ∙ ap (λ (y : ℕ). x / 2 ^ y) e in
         let b : (s / 2 ^ p + 1) / 2 ≡ s / 2 ^ p / 2 = omega (arith, d) in
-        sym (a (s + 2 ^ p)) ∙ ap (λ (x : ℕ). x / 2 / 2 ^ (q - (p + 1))) (add-div-right s (pow-pos p)) ∙ ap (λ (x : ℕ). x / 2 ^ (q - (p + 1))) b ∙ a s
+        sym (a (s + 2 ^ p)) ∙ ap (λ (x : ℕ). x / 2 / 2 ^ (q - (p + 1))) (add-div-right s (pow-pos p))
+        ∙ ap (λ (x : ℕ). x / 2 ^ (q - (p + 1))) b ∙ a s
 
     go : (b : Bool) → ltb q p ≡ b → member (s + 2 ^ p) q ≡ member s q
     go true e = same-digit _ _ q (digit-below s p q (ltb-true q p e))
@@ -259,9 +263,11 @@ even-other x p =
 pub meet-and : (a b : ℕ) → a < 2 ^ 64 → bitAnd a b / 2 * 2 ≡ meet a b
 unfolding meet
 meet-and a b h =
-    ext 64 (bitAnd a b / 2 * 2) (meet a b) (let l : bitAnd a b ≤ a = and-le-l a b in omega arith) (mask-lt (λ (p : ℕ). member a p && member b p) 63) same
+    ext 64 (bitAnd a b / 2 * 2) (meet a b) (let l : bitAnd a b ≤ a = and-le-l a b in omega arith)
+    (mask-lt (λ (p : ℕ). member a p && member b p) 63) same
   where
     same : (p : ℕ) → p < 64 → member (bitAnd a b / 2 * 2) p ≡ member (maskOf (λ (q : ℕ). member a q && member b q) 63) p
     same zero l = even-zero (bitAnd a b) ∙ sym (mask-zero (λ (q : ℕ). member a q && member b q) 63)
     same (suc p) l =
-        even-other (bitAnd a b) p ∙ member-and a b (suc p) ∙ sym (mask-member (λ (q : ℕ). member a q && member b q) 63 (suc p) (omega arith) (omega arith))
+        even-other (bitAnd a b) p ∙ member-and a b (suc p)
+        ∙ sym (mask-member (λ (q : ℕ). member a q && member b q) 63 (suc p) (omega arith) (omega arith))

@@ -1,7 +1,7 @@
 -- What a caller cites besides of a table's lists: a fresh name, the other live version. Assumes nothing.
 use mathlib.Core.Path.{_≡_, refl, sym, ap, _∙_}
 use mathlib.Core.Bool.{Bool, true, false, cond}
-use mathlib.Core.Option.{Option, none, some}
+use mathlib.Core.Option.{none, some}
 use mathlib.Core.List.{List, [], _∷_}
 use Prim.Native.Nat.{ℕ, _≤_, _<_, max, Ordering, Ordering·lt, Ordering·eq, Ordering·gt}
 use native.Mathlib.Omega.{arith}
@@ -19,7 +19,8 @@ use Rattle.table.specs.Survey.{listOf}
 
 -- ---- a number above the newest is fresh
 
-pub fresh-absent : (line : ℕ → ℕ) (k : Id) (t : List Version) → largest (λ (v : Version). v .id .number) (rowsOf line (line (k .tn .0)) t) < k .number
+pub fresh-absent : (line : ℕ → ℕ) (k : Id) (t : List Version)
+    → largest (λ (v : Version). v .id .number) (rowsOf line (line (k .tn .0)) t) < k .number
     → find k t ≡ none
 fresh-absent line k [] h = refl
 fresh-absent line k (v ∷ vs) h = go (order k (v .id)) refl (eqb (line (v .id .tn .0)) (line (k .tn .0))) refl h (fresh-absent line k vs)
@@ -30,7 +31,8 @@ fresh-absent line k (v ∷ vs) h = go (order k (v .id)) refl (eqb (line (v .id .
     r : List Version
     r = rowsOf line (line (k .tn .0)) vs
 
-    go : (o : Ordering) → order k (v .id) ≡ o → (b : Bool) → eqb (line (v .id .tn .0)) (line (k .tn .0)) ≡ b → newest (cond b (v ∷ r) r) < k .number
+    go : (o : Ordering) → order k (v .id) ≡ o → (b : Bool) → eqb (line (v .id .tn .0)) (line (k .tn .0)) ≡ b
+        → newest (cond b (v ∷ r) r) < k .number
         → (newest r < k .number → find k vs ≡ none) → sel o none (some v) (find k vs) ≡ none
     go Ordering·lt e b q l ih = refl
     go Ordering·eq e true q l ih =
@@ -55,7 +57,8 @@ keep-one p (v ∷ vs) h = go (p v) h (keep-one p vs)
     none-left [] z = refl
     none-left (x ∷ xs) z = absurd (omega arith)
 
-    go : (b : Bool) → length (cond b (v ∷ keep p vs) (keep p vs)) ≤ 1 → (count p vs ≤ 1 → keep p vs ≡ listOf (first p vs)) → cond b (v ∷ keep p vs) (keep p vs) ≡ listOf (cond b (some v) (first p vs))
+    go : (b : Bool) → length (cond b (v ∷ keep p vs) (keep p vs)) ≤ 1 → (count p vs ≤ 1 → keep p vs ≡ listOf (first p vs))
+        → cond b (v ∷ keep p vs) (keep p vs) ≡ listOf (cond b (some v) (first p vs))
     go true z ih = ap (λ (l : List Version). v ∷ l) (none-left (keep p vs) (omega arith))
     go false z ih = ih z
 
@@ -63,7 +66,8 @@ count-kept : (p q : Version → Bool) (l : List Version) → count p (keep q l) 
 count-kept p q [] = omega arith
 count-kept p q (v ∷ vs) = go (q v) (p v) refl (count-kept p q vs)
   where
-    go : (a b : Bool) → p v ≡ b → count p (keep q vs) ≤ count p vs → count p (cond a (v ∷ keep q vs) (keep q vs)) ≤ length (cond b (v ∷ keep p vs) (keep p vs))
+    go : (a b : Bool) → p v ≡ b → count p (keep q vs) ≤ count p vs
+        → count p (cond a (v ∷ keep q vs) (keep q vs)) ≤ length (cond b (v ∷ keep p vs) (keep p vs))
     go true true e h = rw e (omega arith)
     go true false e h = rw e h
     go false true e h = omega arith

@@ -45,7 +45,8 @@ number-at (v ∷ vs) zero n h = n .0
 number-at (v ∷ vs) (suc i) n h = number-at vs i (n .1) (le-of-suc-le-suc h)
 
 -- a name that stands further on is above the first
-later : (x : Version) (xs : List Version) (k i : ℕ) (j : Id) → RisingFrom k (x ∷ xs) → Numbered (x ∷ xs) → i < length xs → versionAt xs i .id ≡ j → order j (x .id) ≡ Ordering·gt
+later : (x : Version) (xs : List Version) (k i : ℕ) (j : Id) → RisingFrom k (x ∷ xs) → Numbered (x ∷ xs) → i < length xs
+    → versionAt xs i .id ≡ j → order j (x .id) ≡ Ordering·gt
 later x xs k i j r n h e =
     let l : keyFor x < keyOf j = subst (λ (z : Id). keyFor x < keyOf z) e (above-at xs (keyFor x) i (r .1) h) in
     let b : j .number < 65536 = subst (λ (z : Id). z .number < 65536) e (number-at xs i (n .1) h) in
@@ -54,21 +55,24 @@ later x xs k i j r n h e =
 same-name : (x : Version) (j : Id) → x .id ≡ j → order j (x .id) ≡ Ordering·eq
 same-name x j e = ap (order j) e ∙ order-self j
 
-pub set-puts : (vs : List Version) (k i : ℕ) (v : Version) → RisingFrom k vs → Numbered vs → i < length vs → versionAt vs i .id ≡ v .id → set vs i v ≡ change (put v) vs
+pub set-puts : (vs : List Version) (k i : ℕ) (v : Version) → RisingFrom k vs → Numbered vs → i < length vs → versionAt vs i .id ≡ v .id
+    → set vs i v ≡ change (put v) vs
 set-puts [] k i v r n h e = absurd (not-suc-le-zero h)
 set-puts (x ∷ xs) k zero v r n h e = rw (same-name x (v .id) e)
 set-puts (x ∷ xs) k (suc i) v r n h e =
     let l : i < length xs = le-of-suc-le-suc h in
     rw (later x xs k i (v .id) r n l e) (ap (λ (l : List Version). x ∷ l) (set-puts xs (keyFor x) i v (r .1) (n .1) l e))
 
-pub remove-strikes : (vs : List Version) (k i : ℕ) (j : Id) → RisingFrom k vs → Numbered vs → i < length vs → versionAt vs i .id ≡ j → removeAt vs i ≡ change (strike j) vs
+pub remove-strikes : (vs : List Version) (k i : ℕ) (j : Id) → RisingFrom k vs → Numbered vs → i < length vs → versionAt vs i .id ≡ j
+    → removeAt vs i ≡ change (strike j) vs
 remove-strikes [] k i j r n h e = absurd (not-suc-le-zero h)
 remove-strikes (x ∷ xs) k zero j r n h e = rw (same-name x j e)
 remove-strikes (x ∷ xs) k (suc i) j r n h e =
     let l : i < length xs = le-of-suc-le-suc h in
     rw (later x xs k i j r n l e) (ap (λ (l : List Version). x ∷ l) (remove-strikes xs (keyFor x) i j (r .1) (n .1) l e))
 
-pub insert-adds : (vs : List Version) (v : Version) → Numbered vs → v .id .number < 65536 → find (v .id) vs ≡ none → insertAt vs (placeIn (keyFor v) vs) v ≡ change (add v) vs
+pub insert-adds : (vs : List Version) (v : Version) → Numbered vs → v .id .number < 65536 → find (v .id) vs ≡ none
+    → insertAt vs (placeIn (keyFor v) vs) v ≡ change (add v) vs
 unfolding placeIn lowerOf
 insert-adds [] v n h f = refl
 insert-adds (x ∷ xs) v n h f = ⊎-elim low (⊎-elim same (high (insert-adds xs v (n .1) h))) (order-view (v .id) (x .id) h (n .0))
@@ -87,18 +91,21 @@ insert-adds (x ∷ xs) v n h f = ⊎-elim low (⊎-elim same (high (insert-adds 
 
 -- ---- a version of the same name keeps the order
 
-pub rising-set : (vs : List Version) (k i : ℕ) (v : Version) → i < length vs → versionAt vs i .id ≡ v .id → RisingFrom k vs → RisingFrom k (set vs i v)
+pub rising-set : (vs : List Version) (k i : ℕ) (v : Version) → i < length vs → versionAt vs i .id ≡ v .id → RisingFrom k vs
+    → RisingFrom k (set vs i v)
 rising-set [] k i v l e r = absurd (not-suc-le-zero l)
 rising-set (x ∷ xs) k zero v l e r = (subst (λ (j : Id). k < keyOf j) e (r .0), subst (λ (j : Id). RisingFrom (keyOf j) xs) e (r .1))
 rising-set (x ∷ xs) k (suc i) v l e r = (r .0, rising-set xs (keyFor x) i v (le-of-suc-le-suc l) e (r .1))
 
-pub numbered-set : (vs : List Version) (i : ℕ) (v : Version) → i < length vs → versionAt vs i .id ≡ v .id → Numbered vs → Numbered (set vs i v)
+pub numbered-set : (vs : List Version) (i : ℕ) (v : Version) → i < length vs → versionAt vs i .id ≡ v .id → Numbered vs
+    → Numbered (set vs i v)
 numbered-set [] i v l e n = absurd (not-suc-le-zero l)
 numbered-set (x ∷ xs) zero v l e n = (subst (λ (j : Id). j .number < 65536) e (n .0), n .1)
 numbered-set (x ∷ xs) (suc i) v l e n = (n .0, numbered-set xs i v (le-of-suc-le-suc l) e (n .1))
 
 -- the names stay as they were
-pub name-set : (vs : List Version) (i j : ℕ) (v : Version) → i < length vs → versionAt vs i .id ≡ v .id → versionAt (set vs i v) j .id ≡ versionAt vs j .id
+pub name-set : (vs : List Version) (i j : ℕ) (v : Version) → i < length vs → versionAt vs i .id ≡ v .id
+    → versionAt (set vs i v) j .id ≡ versionAt vs j .id
 name-set [] i j v l e = refl
 name-set (x ∷ xs) zero zero v l e = sym e
 name-set (x ∷ xs) zero (suc j) v l e = refl

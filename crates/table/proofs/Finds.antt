@@ -26,7 +26,8 @@ unfolding keysOf keyAt rowAt
 keys-at n t i h = getD-map keyIn (chunks ROW n t) i [] 0 (rw (chunks-length ROW n t) h) ∙ ap keyIn (getD-chunks ROW n i t h)
 
 -- what is true of a lower bound, and of nothing else
-pub lower-is : (k : ℕ) (xs : List ℕ) (r : ℕ) → r ≤ length xs → ((p : ℕ) → p < r → getD xs p 0 < k) → ((p : ℕ) → r ≤ p → p < length xs → k ≤ getD xs p 0) → r ≡ lowerOf k xs
+pub lower-is : (k : ℕ) (xs : List ℕ) (r : ℕ) → r ≤ length xs → ((p : ℕ) → p < r → getD xs p 0 < k)
+    → ((p : ℕ) → r ≤ p → p < length xs → k ≤ getD xs p 0) → r ≡ lowerOf k xs
 unfolding lowerOf
 lower-is k [] zero h b a = refl
 lower-is k [] (suc r) h b a = absurd (not-suc-le-zero h)
@@ -43,7 +44,8 @@ pub record Bracket (xs : List ℕ) (k lo hi : ℕ) : Type 0 where
   pub above : (p : ℕ) → hi ≤ p → p < length xs → k ≤ getD xs p 0
 
 pub bracket-start : (xs : List ℕ) (k : ℕ) → Bracket xs k 0 (length xs)
-bracket-start xs k = record { lo-hi = zero-le; hi-in = omega arith; below = λ p l. absurd (not-suc-le-zero l); above = λ p l m. absurd (omega arith) }
+bracket-start xs k = record
+    { lo-hi = zero-le; hi-in = omega arith; below = λ p l. absurd (not-suc-le-zero l); above = λ p l m. absurd (omega arith) }
 
 module _ (xs : List ℕ) (k lo hi mid : ℕ) (up : Rises xs) (b : Bracket xs k lo hi) (l : lo ≤ mid) (h : mid < hi) where
   pub bracket-up : getD xs mid 0 < k → Bracket xs k (mid + 1) hi
@@ -52,7 +54,8 @@ module _ (xs : List ℕ) (k lo hi mid : ℕ) (up : Rises xs) (b : Bracket xs k l
       record {
         lo-hi = omega arith;
         hi-in = b .hi-in;
-        below = λ p q. ⊎-elim (λ e. rw e t) (λ s. lt-of-lt-of-le (up p mid s (omega arith)) (le-of-lt t)) (eq-or-lt-of-le (le-of-suc-le-suc (subst (λ (j : ℕ). p < j) (add-one mid) q)));
+        below = λ p q. ⊎-elim (λ e. rw e t) (λ s. lt-of-lt-of-le (up p mid s (omega arith)) (le-of-lt t))
+            (eq-or-lt-of-le (le-of-suc-le-suc (subst (λ (j : ℕ). p < j) (add-one mid) q)));
         above = b .above;
       }
 
@@ -95,7 +98,8 @@ module _ (xs : List ℕ) (k : ℕ) where
       record { lo-hi = omega (arith, b .lo-hi); hi-in = l; below = b .below; above = λ p m s. b .above p (le-trans h m) s }
 
   module _ (up : Rises xs) (lo left half : ℕ) (b : Bracket xs k lo (lo + left)) (some : 1 ≤ half) (twice : half + half ≤ left) where
-    half-by : (t : Bool) → ltb (getD xs (lo + half - 1) 0) k ≡ t → Bracket xs k (lo + half * cond t 1 0) (lo + half * cond t 1 0 + (left - half))
+    half-by : (t : Bool) → ltb (getD xs (lo + half - 1) 0) k ≡ t
+        → Bracket xs k (lo + half * cond t 1 0) (lo + half * cond t 1 0 + (left - half))
     half-by true p =
         bracket-at (lo + half - 1 + 1) (lo + left) _ _ (omega arith) (omega arith)
         (bracket-up xs k lo (lo + left) (lo + half - 1) up b (omega arith) (omega arith) (ltb-true _ k p))
@@ -105,13 +109,17 @@ module _ (xs : List ℕ) (k : ℕ) where
         (bracket-down xs k lo (lo + left) (lo + half - 1) up b (omega arith) (omega arith) (ltb-false _ k p)))
 
     -- one turn: the upper half, or the lower
-    pub bracket-half : (u : ℕ) → u ≡ cond (ltb (getD xs (lo + half - 1) 0) k) 1 0 → Bracket xs k (lo + half * u) (lo + half * u + (left - half))
+    pub bracket-half : (u : ℕ) → u ≡ cond (ltb (getD xs (lo + half - 1) 0) k) 1 0
+        → Bracket xs k (lo + half * u) (lo + half * u + (left - half))
     bracket-half u q = rw q (half-by (ltb (getD xs (lo + half - 1) 0) k) refl)
 
   module _ (up : Rises xs) (lo : ℕ) (b : Bracket xs k lo (lo + 1)) where
     last-by : (t : Bool) → ltb (getD xs lo 0) k ≡ t → lo + cond t 1 0 ≡ lowerOf k xs
-    last-by true p = bracket-end xs k (lo + 1) (lo + 1) (bracket-up xs k lo (lo + 1) lo up b (omega arith) (omega arith) (ltb-true _ k p)) (omega arith)
-    last-by false p = bracket-end xs k (lo + 0) lo (bracket-at lo lo _ _ (omega arith) refl (bracket-down xs k lo (lo + 1) lo up b (omega arith) (omega arith) (ltb-false _ k p))) (omega arith)
+    last-by true p = bracket-end xs k (lo + 1) (lo + 1) (bracket-up xs k lo (lo + 1) lo up b (omega arith) (omega arith) (ltb-true _ k p))
+        (omega arith)
+    last-by false p = bracket-end xs k (lo + 0) lo
+        (bracket-at lo lo _ _ (omega arith) refl (bracket-down xs k lo (lo + 1) lo up b (omega arith) (omega arith) (ltb-false _ k p)))
+        (omega arith)
 
     -- the last turn: one place is left
     pub bracket-last : (u : ℕ) → u ≡ cond (ltb (getD xs lo 0) k) 1 0 → lo + u ≡ lowerOf k xs

@@ -26,7 +26,8 @@ rows-none n k (v ∷ vs) a r h =
     let l : k < keyOf (v .id) = r .0 in
     let u : n < v .id .tn .0 = omega arith in
     let w : n < keyOf (v .id) / 65536 = omega arith in
-    ap (λ (c : Bool). cond c (v ∷ rowsOf itself n vs) (rowsOf itself n vs)) (ne-eqb (v .id .tn .0) n (ne-of-gt u)) ∙ rows-none n (keyOf (v .id)) vs (a .1) (r .1) w
+    ap (λ (c : Bool). cond c (v ∷ rowsOf itself n vs) (rowsOf itself n vs)) (ne-eqb (v .id .tn .0) n (ne-of-gt u))
+    ∙ rows-none n (keyOf (v .id)) vs (a .1) (r .1) w
 
 place-zero : (q k : ℕ) (vs : List Version) → RisingFrom k vs → q ≤ k → placeIn q vs ≡ 0
 unfolding placeIn lowerOf
@@ -34,11 +35,13 @@ place-zero q k [] r h = refl
 place-zero q k (v ∷ vs) r h = ap (λ (b : Bool). past b (lowerOf q (keys vs))) (le-ltb (keyFor v) q (omega (arith, r .0)))
 
 -- the rows of number n are those from its first key to the next number's
-pub rows-between : (n k : ℕ) (vs : List Version) → AllSound vs → RisingFrom k vs → slice (placeIn (n * 65536) vs) (placeIn ((n + 1) * 65536) vs) vs ≡ rowsOf itself n vs
+pub rows-between : (n k : ℕ) (vs : List Version) → AllSound vs → RisingFrom k vs
+    → slice (placeIn (n * 65536) vs) (placeIn ((n + 1) * 65536) vs) vs ≡ rowsOf itself n vs
 unfolding placeIn lowerOf
 rows-between n k [] a r = refl
 rows-between n k (v ∷ vs) a r =
-    go (ltb (keyFor v) (n * 65536)) (ltb (keyFor v) ((n + 1) * 65536)) refl refl (rows-between n (keyFor v) vs (a .1) (r .1)) (number-lt v (a .0))
+    go (ltb (keyFor v) (n * 65536)) (ltb (keyFor v) ((n + 1) * 65536)) refl refl (rows-between n (keyFor v) vs (a .1) (r .1))
+    (number-lt v (a .0))
   where
     lo : ℕ
     lo = placeIn (n * 65536) vs
@@ -49,7 +52,8 @@ rows-between n k (v ∷ vs) a r =
     rows : List Version
     rows = rowsOf itself n vs
 
-    go : (a b : Bool) → ltb (keyFor v) (n * 65536) ≡ a → ltb (keyFor v) ((n + 1) * 65536) ≡ b → slice lo hi vs ≡ rows → v .id .number < 65536
+    go : (a b : Bool) → ltb (keyFor v) (n * 65536) ≡ a → ltb (keyFor v) ((n + 1) * 65536) ≡ b → slice lo hi vs ≡ rows
+        → v .id .number < 65536
         → slice (past a lo) (past b hi) (v ∷ vs) ≡ cond (eqb (v .id .tn .0) n) (v ∷ rows) rows
     go true true p q i z =
         let l : keyFor v < n * 65536 = ltb-true _ _ p in
@@ -77,7 +81,8 @@ unfolding placeIn lowerOf
 place-up [] j k h = omega arith
 place-up (v ∷ vs) j k h = go (ltb (keyFor v) j) (ltb (keyFor v) k) refl refl (place-up vs j k h)
   where
-    go : (a b : Bool) → ltb (keyFor v) j ≡ a → ltb (keyFor v) k ≡ b → placeIn j vs ≤ placeIn k vs → past a (placeIn j vs) ≤ past b (placeIn k vs)
+    go : (a b : Bool) → ltb (keyFor v) j ≡ a → ltb (keyFor v) k ≡ b → placeIn j vs ≤ placeIn k vs
+        → past a (placeIn j vs) ≤ past b (placeIn k vs)
     go true true p q i = omega arith
     go true false p q i =
         let x : keyFor v < j = ltb-true _ _ p in

@@ -46,7 +46,8 @@ found-one t r (One i v) (One j w) o f g =
     let p : i ≡ j = one-place t r i j (f .stands .0) (g .stands .0) (f .stands .1 ∙ e ∙ sym (g .stands .1)) in
     λ x. One (p x) (e x)
 
-pub surveyed-one : (rows : ℕ) (t : List Version) → soundTable itself rows t ≡ true → (r : List Version) (k : ℕ) (create : Bool) (f g : Facts)
+pub surveyed-one : (rows : ℕ) (t : List Version) → soundTable itself rows t ≡ true
+    → (r : List Version) (k : ℕ) (create : Bool) (f g : Facts)
     → Surveyed t r k create f → Surveyed t r k create g → f ≡ g
 surveyed-one rows t s r k create f g a b =
     let up : RisingFrom 0 t = table-good rows t s .rises in

@@ -1,12 +1,10 @@
 -- Finding in a sound table, said of what the table says. Assumes nothing.
-use mathlib.Core.Path.{_≡_, refl, sym, ap, ap₂, _∙_, subst}
-use mathlib.Core.Bool.{Bool, true, false}
-use mathlib.Core.List.{List, [], _∷_, map}
-use Prim.Native.Nat.{ℕ, suc, _-_, _^_, _≤_, _<_, zero-le, suc-le-suc}
+use mathlib.Core.Path.{_≡_, sym, ap, ap₂, _∙_, subst}
+use mathlib.Core.Bool.{true}
+use mathlib.Core.List.{List, [], map}
+use Prim.Native.Nat.{ℕ, _-_, _^_, _≤_, _<_}
 use native.Mathlib.Nat.{lt-trans}
 use native.Mathlib.Omega.{arith}
-use borrow.Author.Tests.{lt-ltb}
-use lib.Dec.{ltb}
 use lib.ListN.{length, getD, length-map, replicate, List·getD-append}
 use lib.Seq.{ext-getD}
 use Rattle.model.specs.declared.Version.{Version}
@@ -18,7 +16,7 @@ use Rattle.row.proofs.Rooms.{sound-room}
 use Rattle.row.proofs.Packs.{words-pack, unpack-pack, head-key}
 use Rattle.rows.specs.Place.{rowAt}
 use Rattle.rows.specs.Table.{decode, encode, cells}
-use Rattle.table.specs.Find.{keyIn, keyAt, keysOf, Rises, past, lowerOf, keyFor, keys, placeIn}
+use Rattle.table.specs.Find.{keyIn, keyAt, keysOf, Rises, lowerOf, keyFor, keys, placeIn}
 use Rattle.scan.specs.Sound.{SoundTable, rowsIn}
 use Rattle.rows.proofs.Lists.{getD-map}
 use Rattle.rows.proofs.Sounds.{AllSound, sound-at, RisingFrom}
@@ -32,7 +30,8 @@ key-pack : (v : Version) → soundVersion v ≡ true → keyIn (pack v) ≡ keyF
 unfolding unpack
 key-pack v e =
     let r = sound-room v e in
-    let h : wordsIn (pack v) .head < 2 ^ 64 = subst (λ (w : ℕ). w < 2 ^ 64) (ap (λ w. w .head) (sym (words-pack v r))) (room-fits v r .head) in
+    let h : wordsIn (pack v) .head < 2 ^ 64 =
+    subst (λ (w : ℕ). w < 2 ^ 64) (ap (λ w. w .head) (sym (words-pack v r))) (room-fits v r .head) in
     head-key (wordsIn (pack v)) h ∙ ap keyFor (unpack-pack v r)
 
 key-encode : (vs : List Version) (n i : ℕ) → AllSound vs → length vs ≤ n → i < length vs → keyAt (encode vs n) i ≡ getD (keys vs) i 0
@@ -68,7 +67,8 @@ module _ (t : List ℕ) (n : ℕ) (s : SoundTable t n) where
   sound-good = table-good (rowsIn t) (decode t) (s .sound)
 
   sound-keys : keysOf n t ≡ keys (decode t)
-  sound-keys = ap₂ keysOf (sym (s .count)) (s .is) ∙ keys-encode (decode t) (rowsIn t) (sound-good .sound) (omega (arith, s .count, s .room))
+  sound-keys = ap₂ keysOf (sym (s .count)) (s .is)
+      ∙ keys-encode (decode t) (rowsIn t) (sound-good .sound) (omega (arith, s .count, s .room))
 
   pub sound-rises : Rises (keysOf n t)
   unfolding Rises

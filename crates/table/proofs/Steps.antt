@@ -37,7 +37,8 @@ module _ (t : List ℕ) (n : ℕ) (s : SoundTable t n) where
       ∙ ap (λ (x : List Version). encode x (rowsIn t)) (set-puts (decode t) 0 i v (g .rises) (sound-numbered (decode t) (g .sound)) l e)
 
   -- after two stores
-  pub stores-put : (i : ℕ) (v : Version) (j : ℕ) (w : Version) → i < n → j < n → versionAt (decode t) i .id ≡ v .id → versionAt (decode t) j .id ≡ w .id
+  pub stores-put : (i : ℕ) (v : Version) (j : ℕ) (w : Version) → i < n → j < n → versionAt (decode t) i .id ≡ v .id
+      → versionAt (decode t) j .id ≡ w .id
       → putRow (putRow t i (pack v)) j (pack w) ≡ encode (changes (put v ∷ put w ∷ []) (decode t)) (rowsIn t)
   stores-put i v j w h k e f =
       let g = sound-good t n s in
@@ -51,7 +52,9 @@ module _ (t : List ℕ) (n : ℕ) (s : SoundTable t n) where
       ap (λ (x : List ℕ). putRow (putRow x i (pack v)) j (pack w)) (s .is)
       ∙ ap (λ (x : List ℕ). putRow x j (pack w)) (put-encode d (rowsIn t) i v l (g .room))
       ∙ put-encode u (rowsIn t) j w o (omega (arith, g .room))
-      ∙ ap (λ (x : List Version). encode x (rowsIn t)) (set-puts u 0 j w (rising-set d 0 i v l e (g .rises)) (numbered-set d i v l e m) o (name-set d i j v l e ∙ f) ∙ ap (change (put w)) z)
+      ∙ ap (λ (x : List Version). encode x (rowsIn t))
+      (set-puts u 0 j w (rising-set d 0 i v l e (g .rises)) (numbered-set d i v l e m) o (name-set d i j v l e ∙ f)
+      ∙ ap (change (put w)) z)
 
   -- after an insert at the version's place
   pub insert-puts : (v : Version) → n < rowsIn t → v .id .number < 65536 → find (v .id) (decode t) ≡ none
@@ -70,7 +73,8 @@ module _ (t : List ℕ) (n : ℕ) (s : SoundTable t n) where
       let l : i < length (decode t) = omega (arith, s .count) in
       ap (λ (z : List ℕ). delRow z i m) (s .is)
       ∙ del-encode (decode t) (rowsIn t) i m h (e ∙ sym (s .count)) (g .room)
-      ∙ ap (λ (x : List Version). encode x (rowsIn t)) (remove-strikes (decode t) 0 i k (g .rises) (sound-numbered (decode t) (g .sound)) l f)
+      ∙ ap (λ (x : List Version). encode x (rowsIn t))
+      (remove-strikes (decode t) 0 i k (g .rises) (sound-numbered (decode t) (g .sound)) l f)
 
 -- ---- the bytes of a sound list of versions
 

@@ -9,14 +9,14 @@ use borrow.Author.Tests.{lt-ltb, le-ltb}
 use lib.ListN.{length}
 use lib.Seq.{slice, slice-cons, slice-empty}
 use Rattle.model.specs.declared.Version.{Version}
-use Rattle.model.specs.Basics.{any, first, largest}
+use Rattle.model.specs.Basics.{any, first}
 use Rattle.model.specs.Given.{withNumber, besides}
 use Rattle.model.specs.Sound.{numbered, live, sends, worked}
 use Rattle.table.specs.declared.survey.Seen.{Seen}
 use Rattle.table.specs.declared.survey.Seen.the-variants.{Nobody, One}
 use Rattle.table.specs.declared.survey.Facts.{Facts}
 use Rattle.table.specs.Find.{placeIn}
-use Rattle.table.specs.Survey.{versionAt, Found, Stands, seenAt, factsAt, Summed, Surveyed}
+use Rattle.table.specs.Survey.{versionAt, Found, seenAt, factsAt, Summed, Surveyed}
 use Rattle.table.proofs.Sought.{place-le}
 use Rattle.table.proofs.Numbered.{place-up}
 

@@ -45,7 +45,8 @@ fn add_new(t: &mut [u8], n: usize, v: Version)
 fn strike_at(t: &mut [u8], n: usize, i: usize)
     requires { ⌜ SoundTable (now t) n ⌝ }
     requires { ⌜ i < n ⌝ }
-    ensures { λ _. ⌜ now (t .exit) ≡ encode (change (strike (versionAt (decode (now (t .entry))) i .id)) (decode (now (t .entry)))) (rowsIn (now (t .entry))) ⌝ }
+    ensures { λ _. ⌜ now (t .exit) ≡ encode (change (strike (versionAt (decode (now (t .entry))) i .id)) (decode (now (t .entry))))
+        (rowsIn (now (t .entry))) ⌝ }
 {
     rows::remove(t, i, n - 1);
 }

@@ -23,7 +23,8 @@ fn first(t: &[u8], i: usize) -> u64
     octets::u64_at(&t[a..e], 0)
 }
 
-// 1 where the key of row i is below k, or 0; least is k at its place in a word's highest 63 bits. Without a branch, since either way is as likely.
+// 1 where the key of row i is below k, or 0; least is k at its place in a word's highest 63 bits. Without a branch, since either way is as
+// likely.
 fn below(t: &[u8], i: usize, k: u64, least: u64) -> usize
     requires { ⌜ (i * ROW + ROW ≤ length (now t)) × (least ≡ k * 8192) × (k < 1125899906842624) ⌝ }
     ensures { λ r. ⌜ r ≡ cond (ltb (keyAt (now (t .entry)) i) k) 1 0 ⌝ }
@@ -79,7 +80,8 @@ pub struct Span {
 pub fn versions(t: &[u8], n: usize, tn: Tn) -> Span
     requires { ⌜ SoundTable (now t) n ⌝ }
     requires { ⌜ tn .0 < 17179869184 ⌝ }
-    ensures { λ r. ⌜ (r .from ≡ placeIn (tn .0 * 65536) (decode (now (t .entry)))) × (r .to ≡ placeIn ((tn .0 + 1) * 65536) (decode (now (t .entry)))) ⌝ }
+    ensures { λ r. ⌜ (r .from ≡ placeIn (tn .0 * 65536) (decode (now (t .entry))))
+        × (r .to ≡ placeIn ((tn .0 + 1) * 65536) (decode (now (t .entry)))) ⌝ }
 {
     let from = lower(t, n, tn.0 * 65536);
     let to = behind(t, n, tn, from);

@@ -21,9 +21,9 @@ pub enum Seen {
     One(usize, Version),
 }
 
-// Of the versions of a line: the newest number, the largest stamp, whether one is sending. For a create the live one and the worked one. For
-// any other kind the one that is asked for, and of those but this one whether one is sending, which blocks a broadcast, and the live one, which
-// the asked one makes a former.
+// Of the versions of a line: the newest number, the largest stamp, whether one is sending. For a create the live one and the worked one.
+// For any other kind the one that is asked for, and of those but this one whether one is sending, which blocks a broadcast, and the live
+// one, which the asked one makes a former.
 pub struct Facts {
     pub newest: u16,
     pub stamp: u32,
@@ -147,7 +147,8 @@ fn under(t: &[u8], n: usize, tn: Tn, number: u16, p: Pass) -> Pass
 // Whole those versions that the kind asks for.
 fn whole(t: &[u8], n: usize, create: bool, p: Pass) -> Facts
     requires { ⌜ SoundTable (now t) n ⌝ }
-    ensures { λ r. ⌜ ((rs : List Version) (k : ℕ) → Summed (decode (now (t .entry))) rs k (factsAt (decode (now (t .entry))) n p) → Surveyed (decode (now (t .entry))) rs k create r) ⌝ }
+    ensures { λ r. ⌜ ((rs : List Version) (k : ℕ) → Summed (decode (now (t .entry))) rs k (factsAt (decode (now (t .entry))) n p)
+        → Surveyed (decode (now (t .entry))) rs k create r) ⌝ }
 {
     if create {
         return Facts {
@@ -177,7 +178,8 @@ fn whole(t: &[u8], n: usize, create: bool, p: Pass) -> Facts
 fn beyond(t: &[u8], n: usize, low: Tn, high: Tn, number: u16) -> Pass
     requires { ⌜ SoundTable (now t) n ⌝ }
     requires { ⌜ high .0 < 17179869184 ⌝ }
-    ensures { λ r. ⌜ Summed (decode (now (t .entry))) (rowsBeyond (low .0) (high .0) (decode (now (t .entry)))) number (factsAt (decode (now (t .entry))) n r) ⌝ }
+    ensures { λ r. ⌜ Summed (decode (now (t .entry))) (rowsBeyond (low .0) (high .0) (decode (now (t .entry)))) number
+        (factsAt (decode (now (t .entry))) n r) ⌝ }
 {
     let p = none(n);
     if low.0 < high.0 {
@@ -186,8 +188,8 @@ fn beyond(t: &[u8], n: usize, low: Tn, high: Tn, number: u16) -> Pass
     p
 }
 
-// What the versions of a line have together, with the version of that number and the others, as a create or any other kind asks. Its names are
-// the TNs low and high, equal where it has but one.
+// What the versions of a line have together, with the version of that number and the others, as a create or any other kind asks. Its names
+// are the TNs low and high, equal where it has but one.
 pub fn line(t: &[u8], n: usize, low: Tn, high: Tn, number: u16, create: bool) -> Facts
     requires { ⌜ SoundTable (now t) n ⌝ }
     requires { ⌜ (low .0 ≤ high .0) × (high .0 < 17179869184) ⌝ }

@@ -1,10 +1,9 @@
 -- The search for a row that shares what a TN has once: what row j - 1 leaves to those before it. Assumes nothing.
 use Prim.Native.Nat.{ℕ, _+_, _-_, _<_}
-use mathlib.Core.Path.{_≡_, refl, sym, ap, _∙_}
+use mathlib.Core.Path.{_≡_, sym, _∙_}
 use mathlib.Core.Bool.{Bool, true, false, _&&_, and-true, and-false}
 use mathlib.Core.List.{List}
 use native.Mathlib.Omega.{arith}
-use borrow.Author.Tests.{eq-eqb}
 use lib.Dec.{eqb}
 use Rattle.faults.specs.Faults.{nearest}
 use Rattle.faults.proofs.Laws.{nearest-here, nearest-next, nearest-none}

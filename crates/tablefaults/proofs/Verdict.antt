@@ -1,9 +1,8 @@
 -- No row is at fault exactly where the scan, the engine's own check, says sound. Assumes nothing.
 use Prim.Native.Nat.{ℕ, zero, suc, _+_, _-_, _*_, _/_, _%_, _^_, _≤_, _<_}
 use mathlib.Core.Path.{_≡_, refl, sym, ap, ap₂, _∙_, subst}
-use mathlib.Core.Bool.{Bool, true, false, cond, not, _&&_, _||_, and-true, and-false, and-assoc, or-true, or-false}
-use mathlib.Core.List.{List, [], _∷_}
-use native.Mathlib.Nat.{ne-of-gt}
+use mathlib.Core.Bool.{Bool, true, false, cond, not, _&&_, and-true, and-false, and-assoc, or-true, or-false}
+use mathlib.Core.List.{List}
 use native.Mathlib.Numerals.{add-one}
 use native.Mathlib.Omega.{arith}
 use borrow.Author.Tests.{eq-eqb, ne-eqb, eqb-true, eqb-false, lt-ltb, ltb-true}
@@ -16,16 +15,12 @@ use Rattle.model.specs.declared.Broadcast.{Broadcast}
 use Rattle.model.specs.declared.Version.{Version}
 use Rattle.model.specs.Numbers.{isSet}
 use Rattle.model.specs.Sound.{retriesInRange, castInRange, inRange, soundVersion, live, sends, worked, mostRows}
-use Rattle.words.specs.declared.Words.{Words}
 use Rattle.words.specs.Size.{ROW}
-use Rattle.words.specs.Codec.{wordsIn, isBlank}
-use Rattle.row.specs.Layout.{keyOf, versionOf, spareless}
+use Rattle.row.specs.Layout.{keyOf, spareless}
 use Rattle.row.proofs.Rooms.{sound-tn}
-use Rattle.rows.specs.Place.{rowAt}
 use Rattle.rows.specs.Table.{piecesOf}
 use Rattle.rows.proofs.Sounds.{number-lt}
 use Rattle.scan.specs.declared.join.Group.{Group}
-use Rattle.scan.specs.declared.join.Joined.the-variants.{No, Yes}
 use Rattle.scan.specs.declared.Scan.{Scan}
 use Rattle.scan.specs.declared.Scan.the-variants.{Bad, Open, Ended}
 use Rattle.scan.specs.Join.{start, second, either, follows, next, joinOf}
@@ -33,14 +28,16 @@ use Rattle.scan.specs.declared.Soundness.{Soundness}
 use Rattle.scan.specs.declared.Soundness.the-variants.{Unsound, Sound}
 use Rattle.scan.specs.Sound.{pick, admitOf, scanRow, scanRows, scanOf, saidBy, soundnessOf}
 use Rattle.scan.proofs.Scans.{scan-step, scan-done, bad-stays}
-use Rattle.tablefaults.specs.Clauses.{setsInRange, restInRange, rangeClauses, sideClauses, castClauses, wordsAt, versionAt, keyAt, freeAt, formClauses, sinks, mark, share, sharer, besideClauses, rowFound, tableFault}
+use Rattle.tablefaults.specs.Clauses.{setsInRange, restInRange, rangeClauses, sideClauses, castClauses, wordsAt, versionAt, keyAt}
+use Rattle.tablefaults.specs.Clauses.{freeAt, formClauses, sinks, sharer, besideClauses, rowFound, tableFault}
 
 -- ---- a version by itself
 
 -- the values of a broadcast, in the order of the numbers
 cast-ranges : (c : Broadcast) → castInRange c ≡ (setsInRange c && restInRange c)
 unfolding castInRange
-cast-ranges c = go (leb (c .purpose) 3) (ltb (c .start) (2 ^ 32)) (isSet (c .confirmed)) (isSet (c .waiting)) (isSet (c .failed)) (retriesInRange (c .retries))
+cast-ranges c = go (leb (c .purpose) 3) (ltb (c .start) (2 ^ 32)) (isSet (c .confirmed)) (isSet (c .waiting)) (isSet (c .failed))
+    (retriesInRange (c .retries))
   where
     go : (p s a b d r : Bool) → (p && s && a && b && d && r) ≡ ((a && b && d) && (p && s && r))
     go true true true true true r = refl
@@ -74,16 +71,24 @@ module _ (t : List ℕ) where
       let l : tnAt j ≤ m = low j k in
       ne-eqb (tnAt j) n (λ e. absurd (omega arith))
 
-  module _ (p : Version → Bool) (m i : ℕ) (low : Low m i) (b : Bool) (is : eqb (had p m i) 0 ≡ not b) (v : Version) (up : m ≤ v .id .tn .0) where
+  module _ (p : Version → Bool) (m i : ℕ) (low : Low m i) (b : Bool) (is : eqb (had p m i) 0 ≡ not b) (v : Version)
+      (up : m ≤ v .id .tn .0) where
     -- a version that comes next shares it with one before exactly where the last number is its own and has it
-    pub shares : eqb (nearest (λ (j : ℕ). eqb (tnAt j) (v .id .tn .0) && p (versionAt t j) && p v) i) 0 ≡ not (second (eqb (v .id .tn .0) m) b (p v))
+    pub shares : eqb (nearest (λ (j : ℕ). eqb (tnAt j) (v .id .tn .0) && p (versionAt t j) && p v) i) 0
+        ≡ not (second (eqb (v .id .tn .0) m) b (p v))
     shares = go (p v) (eqb (v .id .tn .0) m) refl
       where
-        own : v .id .tn .0 ≡ m → (j : ℕ) → j < i → (eqb (tnAt j) (v .id .tn .0) && p (versionAt t j) && true) ≡ (eqb (tnAt j) m && p (versionAt t j))
+        own : v .id .tn .0 ≡ m → (j : ℕ) → j < i → (eqb (tnAt j) (v .id .tn .0) && p (versionAt t j) && true)
+            ≡ (eqb (tnAt j) m && p (versionAt t j))
         own e j k = and-true (eqb (tnAt j) (v .id .tn .0) && p (versionAt t j)) ∙ ap (λ (n : ℕ). eqb (tnAt j) n && p (versionAt t j)) e
 
-        go : (x s : Bool) → eqb (v .id .tn .0) m ≡ s → eqb (nearest (λ (j : ℕ). eqb (tnAt j) (v .id .tn .0) && p (versionAt t j) && x) i) 0 ≡ not (second s b x)
-        go false s e = rw (nearest-none (λ (j : ℕ). eqb (tnAt j) (v .id .tn .0) && p (versionAt t j) && false) i (λ j k. and-false (eqb (tnAt j) (v .id .tn .0) && p (versionAt t j))), and-false)
+        go : (x s : Bool) → eqb (v .id .tn .0) m ≡ s → eqb (nearest (λ (j : ℕ). eqb (tnAt j) (v .id .tn .0) && p (versionAt t j) && x) i) 0
+            ≡ not (second s b x)
+        go false s e = rw (
+          nearest-none (λ (j : ℕ). eqb (tnAt j) (v .id .tn .0) && p (versionAt t j) && false) i
+              (λ j k. and-false (eqb (tnAt j) (v .id .tn .0) && p (versionAt t j))),
+          and-false,
+        )
         go true true e = ap (λ (n : ℕ). eqb n 0) (nearest-same _ _ i (own (eqb-true _ _ e))) ∙ is ∙ ap not (sym (and-true b))
         go true false e =
             let ne : (v .id .tn .0 ≡ m → ⊥) = eqb-false _ _ e in
@@ -93,7 +98,8 @@ module _ (t : List ℕ) where
     -- and what its number has then
     pub has-then : v ≡ versionAt t i → eqb (had p (v .id .tn .0) (suc i)) 0 ≡ not (either (eqb (v .id .tn .0) m) b (p v))
     unfolding nearest
-    has-then ev = ap (λ (u : Version). eqb (cond (eqb (u .id .tn .0) (v .id .tn .0) && p u) (suc i) (had p (v .id .tn .0) i)) 0) (sym ev) ∙ rw (eq-eqb (v .id .tn .0) (v .id .tn .0) refl) (go (p v) (eqb (v .id .tn .0) m) refl)
+    has-then ev = ap (λ (u : Version). eqb (cond (eqb (u .id .tn .0) (v .id .tn .0) && p u) (suc i) (had p (v .id .tn .0) i)) 0) (sym ev)
+        ∙ rw (eq-eqb (v .id .tn .0) (v .id .tn .0) refl) (go (p v) (eqb (v .id .tn .0) m) refl)
       where
         go : (x s : Bool) → eqb (v .id .tn .0) m ≡ s → eqb (cond x (suc i) (had p (v .id .tn .0) i)) 0 ≡ not (either s b x)
         go true s e = ne-eqb (suc i) 0 (λ z. absurd (omega arith)) ∙ ap not (sym (or-true (s && b)))
@@ -140,14 +146,22 @@ module _ (t : List ℕ) where
     -- the clauses with others are what the scan asks of the next row
     pub beside-follows : allHold (besideClauses t i v) ≡ follows g v
     unfolding follows
-    beside-follows = ap (λ (b : Bool). b && (eqb (sharer 29 t i v) 0 && (eqb (sharer 30 t i v) 0 && (eqb (sharer 31 t i v) 0 && true)))) (c .rises v (omega (arith, sound-tn v s))) ∙ go (ltb (g .last) (keyOf (v .id))) refl
+    beside-follows = ap (λ (b : Bool). b && (eqb (sharer 29 t i v) 0 && (eqb (sharer 30 t i v) 0 && (eqb (sharer 31 t i v) 0 && true))))
+        (c .rises v (omega (arith, sound-tn v s))) ∙ go (ltb (g .last) (keyOf (v .id))) refl
       where
         go : (b : Bool) → ltb (g .last) (keyOf (v .id)) ≡ b
             → (b && (eqb (sharer 29 t i v) 0 && (eqb (sharer 30 t i v) 0 && (eqb (sharer 31 t i v) 0 && true))))
-            ≡ (b && not (second (eqb (v .id .tn .0) (g .last / 65536)) (g .live) (live v)) && not (second (eqb (v .id .tn .0) (g .last / 65536)) (g .sends) (sends v)) && not (second (eqb (v .id .tn .0) (g .last / 65536)) (g .worked) (worked v)))
+            ≡ (b && not (second (eqb (v .id .tn .0) (g .last / 65536)) (g .live) (live v))
+            && not (second (eqb (v .id .tn .0) (g .last / 65536)) (g .sends) (sends v))
+            && not (second (eqb (v .id .tn .0) (g .last / 65536)) (g .worked) (worked v)))
         go true e =
             let h = up (ltb-true _ _ e) in
-            rw (shares live (g .last / 65536) i (c .low) (g .live) (c .lives) v h, shares sends (g .last / 65536) i (c .low) (g .sends) (c .sent) v h, shares worked (g .last / 65536) i (c .low) (g .worked) (c .work) v h)
+            rw (
+              shares live (g .last / 65536) i (c .low) (g .live) (c .lives) v h,
+              shares sends (g .last / 65536) i (c .low) (g .sends)
+                  (c .sent) v h,
+              shares worked (g .last / 65536) i (c .low) (g .worked) (c .work) v h,
+            )
             (simp (and-assoc, and-true))
         go false e = refl
 
@@ -194,7 +208,8 @@ module _ (t : List ℕ) where
       (none-broken (sideClauses v) _ refl
       ∙ ap (λ (x : Bool). allHold (sideClauses v) && x)
       (none-broken (castClauses v) _ refl
-      ∙ ap (λ (x : Bool). allHold (castClauses v) && x) (none-broken (besideClauses t i v) _ refl ∙ and-true (allHold (besideClauses t i v)))))
+      ∙ ap (λ (x : Bool). allHold (castClauses v) && x)
+      (none-broken (besideClauses t i v) _ refl ∙ and-true (allHold (besideClauses t i v)))))
       ∙ group (allHold (rangeClauses v)) (allHold (sideClauses v)) (allHold (castClauses v)) (allHold (besideClauses t i v))
       ∙ ap (λ (x : Bool). x && allHold (besideClauses t i v)) (alone-sound v)
       ∙ go (soundVersion v) refl))
@@ -210,7 +225,8 @@ module _ (t : List ℕ) where
       group true false c d = refl
       group false b c d = refl
 
-      go : (s : Bool) → soundVersion (versionAt t i) ≡ s → (s && allHold (besideClauses t i (versionAt t i))) ≡ (s && follows g (versionAt t i))
+      go : (s : Bool) → soundVersion (versionAt t i) ≡ s → (s && allHold (besideClauses t i (versionAt t i)))
+          ≡ (s && follows g (versionAt t i))
       go true e = beside-follows i g c e
       go false e = refl
 
@@ -231,18 +247,22 @@ module _ (t : List ℕ) where
   stops i s h e = ap accepted (step i s Bad h e ∙ bad-stays (drop (suc i) (piecesOf t)))
 
   -- behind a free row
-  ended-agrees : (m i n : ℕ) → i + m ≡ length t / ROW → before (freeAt t) i ≡ true → accepted (scanned (Ended n) i) ≡ isFaultless (firstFault (rowFound t) m i)
+  ended-agrees : (m i n : ℕ) → i + m ≡ length t / ROW → before (freeAt t) i ≡ true
+      → accepted (scanned (Ended n) i) ≡ isFaultless (firstFault (rowFound t) m i)
   unfolding firstFault scanRow
   ended-agrees zero i n h b = ap accepted (scan-done t i (Ended n) (omega arith))
   ended-agrees (suc m) i n h b = go (freeAt t i) refl (ended-agrees m (suc i) n (omega arith))
     where
-      go : (f : Bool) → freeAt t i ≡ f → (freeAt t i ≡ true → accepted (scanned (Ended n) (suc i)) ≡ isFaultless (firstFault (rowFound t) m (suc i)))
+      go : (f : Bool) → freeAt t i ≡ f
+          → (freeAt t i ≡ true → accepted (scanned (Ended n) (suc i)) ≡ isFaultless (firstFault (rowFound t) m (suc i)))
           → accepted (scanned (Ended n) i) ≡ isFaultless (firstFault (rowFound t) (suc m) i)
-      go true f ih = ap accepted (step i (Ended n) (Ended n) (omega arith) (rw f)) ∙ ih f ∙ sym (faultless-next (rowFound t) m i (free-fine i f))
+      go true f ih = ap accepted (step i (Ended n) (Ended n) (omega arith) (rw f)) ∙ ih f
+          ∙ sym (faultless-next (rowFound t) m i (free-fine i f))
       go false f ih = stops i (Ended n) (omega arith) (rw f) ∙ sym (faulty-here (rowFound t) m i (behind-free i b f))
 
   -- among the used rows
-  open-agrees : (m i n : ℕ) (g : Group) → i + m ≡ length t / ROW → Carried i g → accepted (scanned (Open n g) i) ≡ isFaultless (firstFault (rowFound t) m i)
+  open-agrees : (m i n : ℕ) (g : Group) → i + m ≡ length t / ROW → Carried i g
+      → accepted (scanned (Open n g) i) ≡ isFaultless (firstFault (rowFound t) m i)
   unfolding firstFault scanRow admitOf joinOf follows
   open-agrees zero i n g h c = ap accepted (scan-done t i (Open n g) (omega arith))
   open-agrees (suc m) i n g h c =
@@ -252,19 +272,24 @@ module _ (t : List ℕ) where
       rises : follows g (versionAt t i) ≡ true → g .last < keyAt t i
       rises e = ltb-true _ _ (and-l _ _ (and-l _ _ (and-l _ _ e)))
 
-      go : (f a s w : Bool) → freeAt t i ≡ f → spareless (wordsAt t i) ≡ a → soundVersion (versionAt t i) ≡ s → follows g (versionAt t i) ≡ w
+      go : (f a s w : Bool) → freeAt t i ≡ f → spareless (wordsAt t i) ≡ a → soundVersion (versionAt t i) ≡ s
+          → follows g (versionAt t i) ≡ w
           → (freeAt t i ≡ true → accepted (scanned (Ended n) (suc i)) ≡ isFaultless (firstFault (rowFound t) m (suc i)))
-          → (Carried (suc i) (next g (versionAt t i)) → accepted (scanned (Open (n + 1) (next g (versionAt t i))) (suc i)) ≡ isFaultless (firstFault (rowFound t) m (suc i)))
+          → (Carried (suc i) (next g (versionAt t i)) → accepted (scanned (Open (n + 1) (next g (versionAt t i))) (suc i))
+          ≡ isFaultless (firstFault (rowFound t) m (suc i)))
           → accepted (scanned (Open n g) i) ≡ isFaultless (firstFault (rowFound t) (suc m) i)
-      go true a s w f ea es ew ie io = ap accepted (step i (Open n g) (Ended n) (omega arith) (rw f)) ∙ ie f ∙ sym (faultless-next (rowFound t) m i (free-fine i f))
+      go true a s w f ea es ew ie io = ap accepted (step i (Open n g) (Ended n) (omega arith) (rw f)) ∙ ie f
+          ∙ sym (faultless-next (rowFound t) m i (free-fine i f))
       go false true true true f ea es ew ie io =
-          ap accepted (step i (Open n g) (Open (n + 1) (next g (versionAt t i))) (omega arith) (rw (f, ea, es, ew))) ∙ io (carried-next i g c es (rises ew) f)
+          ap accepted (step i (Open n g) (Open (n + 1) (next g (versionAt t i))) (omega arith) (rw (f, ea, es, ew)))
+          ∙ io (carried-next i g c es (rises ew) f)
           ∙ sym (faultless-next (rowFound t) m i (used-fine i g c f ∙ rw (ea, es, ew)))
       go false true true false f ea es ew ie io =
           stops i (Open n g) (omega arith) (rw (f, ea, es, ew)) ∙ sym (faulty-here (rowFound t) m i (used-fine i g c f ∙ rw (ea, es, ew)))
       go false true false w f ea es ew ie io =
           stops i (Open n g) (omega arith) (rw (f, ea, es)) ∙ sym (faulty-here (rowFound t) m i (used-fine i g c f ∙ rw (ea, es)))
-      go false false s w f ea es ew ie io = stops i (Open n g) (omega arith) (rw (f, ea)) ∙ sym (faulty-here (rowFound t) m i (used-fine i g c f ∙ rw ea))
+      go false false s w f ea es ew ie io = stops i (Open n g) (omega arith) (rw (f, ea))
+          ∙ sym (faulty-here (rowFound t) m i (used-fine i g c f ∙ rw ea))
 
 -- ---- the whole answer
 
@@ -282,7 +307,9 @@ table-verdict t = go (eqb (length t % ROW) 0) (leb (length t) (mostRows * ROW))
     said (Open n g) = refl
     said (Ended n) = refl
 
-    go : (a b : Bool) → isFaultless (cond a (cond b (firstFault (rowFound t) (length t / ROW) 0) (broken 2)) (broken 1)) ≡ isSound (saidBy (pick a (pick b (scanRows (Open 0 start) (piecesOf t)) Bad) Bad))
-    go true true = sym (open-agrees t (length t / ROW) 0 0 start (omega arith) (carried-start t)) ∙ said (scanRows (Open 0 start) (piecesOf t))
+    go : (a b : Bool) → isFaultless (cond a (cond b (firstFault (rowFound t) (length t / ROW) 0) (broken 2)) (broken 1))
+        ≡ isSound (saidBy (pick a (pick b (scanRows (Open 0 start) (piecesOf t)) Bad) Bad))
+    go true true = sym (open-agrees t (length t / ROW) 0 0 start (omega arith) (carried-start t))
+        ∙ said (scanRows (Open 0 start) (piecesOf t))
     go true false = refl
     go false b = refl

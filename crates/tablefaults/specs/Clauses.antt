@@ -11,7 +11,9 @@ use Rattle.faults.specs.Faults.{Clause, alone, beside, foundAt, firstBroken, be
 use Rattle.model.specs.declared.Broadcast.{Broadcast}
 use Rattle.model.specs.declared.Version.{Version}
 use Rattle.model.specs.Numbers.{tenDigits, isProvider, isSet, isTime, isNumber}
-use Rattle.model.specs.Sound.{retriesInRange, sidesDiffer, newWhole, oldWhole, oneCreated, sidesNeeded, causeFits, cancellerFits, setsApart, retriesFit, startFits, waitingFits, purposeFits, liveFits, liveConfirmed, live, sends, worked, mostRows}
+use Rattle.model.specs.Sound.{retriesInRange, sidesDiffer, newWhole, oldWhole, oneCreated, sidesNeeded, causeFits, cancellerFits}
+use Rattle.model.specs.Sound.{setsApart, retriesFit, startFits, waitingFits, purposeFits, liveFits, liveConfirmed, live, sends, worked}
+use Rattle.model.specs.Sound.{mostRows}
 use Rattle.words.specs.declared.Words.{Words}
 use Rattle.words.specs.Size.{ROW}
 use Rattle.words.specs.Codec.{wordsIn, isBlank}
@@ -121,4 +123,5 @@ rowFound t i =
 -- at most 4,096 whole rows [T1], and then row after row
 unfoldable pub tableFault : List ℕ → Fault
 tableFault t =
-    cond (eqb (length t % ROW) 0) (cond (leb (length t) (mostRows * ROW)) (firstFault (rowFound t) (length t / ROW) 0) (broken 2)) (broken 1)
+    cond (eqb (length t % ROW) 0) (cond (leb (length t) (mostRows * ROW)) (firstFault (rowFound t) (length t / ROW) 0) (broken 2))
+    (broken 1)

@@ -1,4 +1,5 @@
-// The clauses on a version by itself, in the order of their numbers: each group finds its first that does not hold, or leaves it to the rest.
+// The clauses on a version by itself, in the order of their numbers: each group finds its first that does not hold, or leaves it to the
+// rest.
 use faults::Found;
 use model::Version;
 use model::canceller;

@@ -1,5 +1,5 @@
-// Where a table is unsound: the first row that breaks a clause, and the first clause that it breaks. docs/FAULTS.md has the numbers. It is asked
-// where the scan has said unsound, and goes for each row over those before it.
+// Where a table is unsound: the first row that breaks a clause, and the first clause that it breaks. docs/FAULTS.md has the numbers. It is
+// asked where the scan has said unsound, and goes for each row over those before it.
 use faults::Fault;
 use faults::Found;
 use model::Version;
@@ -11,7 +11,8 @@ ghost use Prim.Native.Nat.{_+_, _*_, _/_, _≤_};
 ghost use lib.ListN.{length};
 ghost use Rattle.faults.specs.Faults.{foundAt, firstBroken, firstFault};
 ghost use Rattle.words.specs.Size.{ROW};
-ghost use Rattle.tablefaults.specs.Clauses.{rangeClauses, sideClauses, castClauses, formClauses, besideClauses, wordsAt, versionAt, rowFound, tableFault};
+ghost use Rattle.tablefaults.specs.Clauses.{rangeClauses, sideClauses, castClauses, formClauses, besideClauses, wordsAt, versionAt};
+ghost use Rattle.tablefaults.specs.Clauses.{rowFound, tableFault};
 
 pub mod above;
 pub mod alone;

@@ -83,12 +83,14 @@ unfolding membersFrom count
 length-from s zero p = omega (arith, ap (count s) (add-zero p))
 length-from s (suc k) p = go (member s (suc p)) refl (length-from s k (suc p))
   where
-    go : (b : Bool) → member s (suc p) ≡ b → length (membersFrom s k (suc p)) + (count s p + cond (member s (suc p)) 1 0) ≡ count s (suc p + k)
+    go : (b : Bool) → member s (suc p) ≡ b → length (membersFrom s k (suc p)) + (count s p + cond (member s (suc p)) 1 0)
+        ≡ count s (suc p + k)
         → length (cond b (suc p ∷ membersFrom s k (suc p)) (membersFrom s k (suc p))) + count s p ≡ count s (p + suc k)
     go b e h =
         each b (ap (λ (c : Bool). cond c 1 0) e)
       where
-        each : (b : Bool) → _≡_ {A = ℕ} (cond (member s (suc p)) 1 0) (cond b 1 0) → length (cond b (suc p ∷ membersFrom s k (suc p)) (membersFrom s k (suc p))) + count s p ≡ count s (p + suc k)
+        each : (b : Bool) → _≡_ {A = ℕ} (cond (member s (suc p)) 1 0) (cond b 1 0)
+            → length (cond b (suc p ∷ membersFrom s k (suc p)) (membersFrom s k (suc p))) + count s p ≡ count s (p + suc k)
         each true q = omega (arith, h, q, ap (count s) (add-suc-left p k))
         each false q = omega (arith, h, q, ap (count s) (add-suc-left p k))
 
@@ -107,15 +109,19 @@ pub room : (t u : List ℕ) (m : Message) (place at p s : ℕ) → p < 63 → me
 room t u m place at p s h e ha fits same = omega (arith, count-in s p e, count-le s (p + 1) 63 (omega arith), length-locals m s)
 
 -- the next one fits, since all do
-at-from : (m : Message) (s k p j : ℕ) → p ≤ j → j < p + k → member s (j + 1) ≡ true → All Small (toLocals m (membersFrom s k p)) → Small (toLocal m (j + 1))
+at-from : (m : Message) (s k p j : ℕ) → p ≤ j → j < p + k → member s (j + 1) ≡ true → All Small (toLocals m (membersFrom s k p))
+    → Small (toLocal m (j + 1))
 unfolding membersFrom
 at-from m s zero p j a b h l = absurd (omega arith)
 at-from m s (suc k) p j a b h l = go (eqb p j) refl (member s (suc p)) refl l (at-from m s k (suc p) j)
   where
-    go : (x : Bool) → eqb p j ≡ x → (y : Bool) → member s (suc p) ≡ y → All Small (toLocals m (cond y (suc p ∷ membersFrom s k (suc p)) (membersFrom s k (suc p))))
-        → (suc p ≤ j → j < suc p + k → member s (j + 1) ≡ true → All Small (toLocals m (membersFrom s k (suc p))) → Small (toLocal m (j + 1)))
+    go : (x : Bool) → eqb p j ≡ x → (y : Bool) → member s (suc p) ≡ y
+        → All Small (toLocals m (cond y (suc p ∷ membersFrom s k (suc p)) (membersFrom s k (suc p))))
+        → (suc p ≤ j → j < suc p + k → member s (j + 1) ≡ true → All Small (toLocals m (membersFrom s k (suc p)))
+        → Small (toLocal m (j + 1)))
         → Small (toLocal m (j + 1))
-    go true e true q (with c cs) ih = subst (λ (i : ℕ). Small (toLocal m i)) (let g : p ≡ j = eqb-true p j e in let z : suc p ≡ j + 1 = omega arith in z) c
+    go true e true q (with c cs) ih =
+        subst (λ (i : ℕ). Small (toLocal m i)) (let g : p ≡ j = eqb-true p j e in let z : suc p ≡ j + 1 = omega arith in z) c
     go true e false q c ih =
         let g : p ≡ j = eqb-true p j e in
         let z : j + 1 ≡ suc p = omega arith in
@@ -123,12 +129,14 @@ at-from m s (suc k) p j a b h l = go (eqb p j) refl (member s (suc p)) refl l (a
     go false e true q (with c cs) ih = let n : p ≡ j → ⊥ = eqb-false p j e in ih (omega arith) (omega arith) h cs
     go false e false q c ih = let n : p ≡ j → ⊥ = eqb-false p j e in ih (omega arith) (omega arith) h c
 
-pub small-local : (m r : Message) (s p : ℕ) → All Small (toLocals m (members s)) → p < 63 → member s (p + 1) ≡ true → r ≡ toLocal m (p + 1) → Small r
+pub small-local : (m r : Message) (s p : ℕ) → All Small (toLocals m (members s)) → p < 63 → member s (p + 1) ≡ true
+    → r ≡ toLocal m (p + 1) → Small r
 small-local m r s p l h t e =
     rw e (at-from m s 63 0 p (omega arith) (omega arith) t (subst (λ (ps : List ℕ). All Small (toLocals m ps)) (members-above s) l))
 
 -- the next put, and the rest after it
-pub put-step : (t u : List ℕ) (place p : ℕ) (m r : Message) (s : ℕ) → p < 63 → member s (p + 1) ≡ true → r ≡ toLocal m (p + 1) → u ≡ putMessage t place r
+pub put-step : (t u : List ℕ) (place p : ℕ) (m r : Message) (s : ℕ) → p < 63 → member s (p + 1) ≡ true → r ≡ toLocal m (p + 1)
+    → u ≡ putMessage t place r
     → putAll u (place + 1) (toLocals m (above s (p + 1))) ≡ putAll t place (toLocals m (above s p))
 unfolding putAll
 put-step t u place p m r s h e hr hu =

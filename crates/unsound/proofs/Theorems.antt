@@ -71,7 +71,8 @@ module _ (t p b : List ℕ) where
       unfolding checkedBooks
       books-kept = and-r (listed (map entryOf p) .sound) _ (go (booksFit (listed (map entryOf p)) b) refl h)
         where
-          go : (x : Bool) → booksFit (listed (map entryOf p)) b ≡ x → _≡_ {A = ℕ} (cond x 0 1) 0 → booksFit (listed (map entryOf p)) b ≡ true
+          go : (x : Bool) → booksFit (listed (map entryOf p)) b ≡ x → _≡_ {A = ℕ} (cond x 0 1) 0
+              → booksFit (listed (map entryOf p)) b ≡ true
           go true q z = q
           go false q z = absurd (omega (arith, z))
 
@@ -90,7 +91,8 @@ module _ (t p b : List ℕ) where
       by : (n : ℕ) → soundnessOf t ≡ Sound n → SoundTable t n → (x : Bool) → booksFit L b ≡ x → (k : Bool)
           → soundLines (lineBy b) (decode t) ≡ k → isFaultless (faultBeyond t p b) ≡ eqb (checkedTable (soundnessLent L b t) .outcome) 0
       by n e s true q true k =
-          ap isFaultless (sym (no-fault n s (fits true q) k)) ∙ ap (λ (x : Soundness). eqb (checkedTable x .outcome) 0) (lent-sound L b t n e q k)
+          ap isFaultless (sym (no-fault n s (fits true q) k))
+          ∙ ap (λ (x : Soundness). eqb (checkedTable x .outcome) 0) (lent-sound L b t n e q k)
       by n e s true q false k =
           ap isFaultless (sym (line-fault n s (fits true q) k)) ∙ (lines-are n s ∙ k)
           ∙ ap (λ (x : Soundness). eqb (checkedTable x .outcome) 0) (lent-unlined L b t n e q k)

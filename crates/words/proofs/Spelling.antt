@@ -66,7 +66,8 @@ word-at ws i h =
     let w : ℕ = getD ws i 0 in
     let q : List ℕ = spelt (drop (suc i) ws) in
     let n : length p ≡ i * 8 = spelt-length (take i ws) ∙ ap (λ (k : ℕ). k * 8) (length-take-le i ws (omega arith)) in
-    ap₂ (λ (l : List ℕ) (k : ℕ). be 8 l k) (ap spelt (split-at ws i 0 h) ∙ spelt-append (take i ws) (w ∷ drop (suc i) ws) ∙ sym (append-assoc p (digits 8 w) q)) (sym n)
+    ap₂ (λ (l : List ℕ) (k : ℕ). be 8 l k) (ap spelt (split-at ws i 0 h) ∙ spelt-append (take i ws) (w ∷ drop (suc i) ws)
+    ∙ sym (append-assoc p (digits 8 w) q)) (sym n)
     ∙ be-digits 8 w p q
 
 -- n words from `at` on
@@ -107,7 +108,8 @@ pub record Fit64 (w : Words) : Type 0 where
 pub words-bytes : (w : Words) → Fit64 w → wordsIn (bytesOf w) ≡ w
 unfolding wordsIn bytesOf
 words-bytes w h =
-    let at : (i : ℕ) → i < 10 → getD (firstOf w ++ lastOf w) i 0 < 2 ^ 64 → be 8 (spelt (firstOf w ++ lastOf w)) (i * 8) ≡ getD (firstOf w ++ lastOf w) i 0
+    let at : (i : ℕ) → i < 10 → getD (firstOf w ++ lastOf w) i 0 < 2 ^ 64
+    → be 8 (spelt (firstOf w ++ lastOf w)) (i * 8) ≡ getD (firstOf w ++ lastOf w) i 0
     = λ i l f. word-at (firstOf w ++ lastOf w) i l ∙ mod-eq-of-lt f in
     λ i. record {
       head = at 0 (omega arith) (h .head) i;

@@ -18,7 +18,12 @@ with-requires-2 : tie.Need-with-requires-2
 with-requires-2 c κs = search needs
 
 returns-2 : tie.Need-returns-2
-returns-2 c = rw (c .before .if1 .left, c .with2 .ensures, c .before .before .without .ensures, c .before .before .before .with-used .ensures)
+returns-2 c = rw (
+  c .before .if1 .left,
+  c .with2 .ensures,
+  c .before .before .without .ensures,
+  c .before .before .before .with-used .ensures,
+)
 
 pub leaves-spec : {M : Type 1} → statement M
 leaves-spec =

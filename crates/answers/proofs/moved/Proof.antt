@@ -24,7 +24,12 @@ asked-again-requires c κs =
 
 returns : tie.Need-returns
 unfolding moved
-returns c = rw (← c .before .before .again .ensures, c .before .if1 .taken, ← c .before .before .before .before .answering .ensures, ← c .before .before .before .used .ensures .0) (c .asked-again .ensures)
+returns c = rw (
+  ← c .before .before .again .ensures,
+  c .before .if1 .taken,
+  ← c .before .before .before .before .answering .ensures,
+  ← c .before .before .before .used .ensures .0,
+) (c .asked-again .ensures)
 
 succeeds-requires : tie.Need-succeeds-requires
 succeeds-requires c κs = search needs
@@ -34,7 +39,12 @@ leaves-requires c κs = rw (c .before .before .before .before .answering .ensure
 
 returns-2 : tie.Need-returns-2
 unfolding moved
-returns-2 c = rw (← c .before .before .before .again .ensures, c .before .before .if1 .left, ← c .before .before .before .before .before .answering .ensures, ← c .before .succeeds .ensures) (c .leaves .ensures)
+returns-2 c = rw (
+  ← c .before .before .before .again .ensures,
+  c .before .before .if1 .left,
+  ← c .before .before .before .before .before .answering .ensures,
+  ← c .before .succeeds .ensures,
+) (c .leaves .ensures)
 
 pub moved-spec : {M : Type 1} → statement M
 moved-spec =

@@ -1,9 +1,8 @@
 use borrow.Author.Needs.{needs}
 use denote.Ref.{now}
-use mathlib.Core.Path.{refl, _∙_}
+use mathlib.Core.Path.{refl}
 use Prim.Native.Nat.{_-_}
 use native.Mathlib.Omega.{arith}
-use borrow.Author.Tests.{ltb-true, ltb-false}
 use Rattle.batch.proofs.Loops.{Here, fits-behind, outs-room, here-first, went-full, went-all, here-next}
 use Rattle.batch.proofs.all.Statement.{statement}
 use Rattle.batch.proofs.all.Tie as tie
@@ -19,7 +18,8 @@ abbrev μ-loop : tie.MeasureT-loop
 loop-holds : tie.Need-loop-holds Inv-loop μ-loop
 loop-holds c =
     let s = c .before .before .before .before .before in
-    here-first (s .args .l) (now (s .args .books)) (s .args .most) (now (s .args .events)) (now (s .args .table)) (now (s .args .tray)) (now (s .args .outs)) (s .args .n) (s .pre .0) (s .pre .1 .0)
+    here-first (s .args .l) (now (s .args .books)) (s .args .most) (now (s .args .events)) (now (s .args .table)) (now (s .args .tray))
+    (now (s .args .outs)) (s .args .n) (s .pre .0) (s .pre .1 .0)
 
 mul-if1 : tie.Need-mul-if1 Inv-loop μ-loop
 mul-if1 c =
@@ -45,7 +45,8 @@ same-length-3 c =
 returns : tie.Need-returns Inv-loop μ-loop
 returns c =
     let s = c .before .before .before .before .before .before .before .before in
-    went-full (s .args .l) (now (s .args .books)) (s .args .most) (now (s .args .events)) (now (s .args .table)) (now (s .args .tray)) (now (s .args .outs)) _ _ _ _ _ _ (c .before .before .loop .inv) (c .before .loop-test .taken) (c .if1 .taken)
+    went-full (s .args .l) (now (s .args .books)) (s .args .most) (now (s .args .events)) (now (s .args .table)) (now (s .args .tray))
+    (now (s .args .outs)) _ _ _ _ _ _ (c .before .before .loop .inv) (c .before .loop-test .taken) (c .if1 .taken)
 
 mul-from : tie.Need-mul-from Inv-loop μ-loop
 mul-from c =
@@ -77,8 +78,12 @@ one-requires c κs =
       h .sound,
       (
         h .scanned,
-        fits-behind (s .args .most) (now (s .args .tray)) (c .before .before .before .before .before .before .loop .tray) (c .before .before .before .before .before .before .loop .messages) (s .pre .1 .1) (c .before .before .before .before .if1 .left),
-        outs-room (c .before .before .before .before .before .before .loop .i) _ (now (s .args .outs)) (c .before .before .before .before .before .before .loop .outs) (c .before .before .before .before .before .loop-test .taken) (s .pre .1 .2) (h .outs-same),
+        fits-behind (s .args .most) (now (s .args .tray)) (c .before .before .before .before .before .before .loop .tray)
+            (c .before .before .before .before .before .before .loop .messages) (s .pre .1 .1)
+            (c .before .before .before .before .if1 .left),
+        outs-room (c .before .before .before .before .before .before .loop .i) _ (now (s .args .outs))
+            (c .before .before .before .before .before .before .loop .outs) (c .before .before .before .before .before .loop-test .taken)
+            (s .pre .1 .2) (h .outs-same),
         h .room,
       ),
     )
@@ -94,9 +99,15 @@ loop-less c =
 
 loop-again : tie.Need-loop-again Inv-loop μ-loop
 loop-again c =
-    let s = c .before .before .before .before .before .before .before .before .before .before .before .before .before .before .before .before .before .before .before in
+    let s = c .before .before .before .before .before .before .before .before .before .before .before .before .before .before .before
+    .before .before .before .before in
     let k = c .before .before .before .before .before .before .one .kept in
-    here-next (s .args .l) (now (s .args .books)) (s .args .most) (now (s .args .events)) (now (s .args .table)) (now (s .args .tray)) (now (s .args .outs)) _ _ _ _ _ _ (c .before .before .before .before .before .before .before .before .before .before .before .before .before .loop .inv) _ _ _ _ _ (c .before .before .before .before .before .before .before .before .before .before .before .before .loop-test .taken) (c .before .before .before .before .before .before .before .before .before .before .before .if1 .left) (search needs) (search needs) (search needs) (c .before .before .before .before .before .before .one .ensures _ refl)
+    here-next (s .args .l) (now (s .args .books)) (s .args .most) (now (s .args .events)) (now (s .args .table)) (now (s .args .tray))
+    (now (s .args .outs)) _ _ _ _ _ _
+    (c .before .before .before .before .before .before .before .before .before .before .before .before .before .loop .inv) _ _ _ _ _
+    (c .before .before .before .before .before .before .before .before .before .before .before .before .loop-test .taken)
+    (c .before .before .before .before .before .before .before .before .before .before .before .if1 .left) (search needs) (search needs)
+    (search needs) (c .before .before .before .before .before .before .one .ensures _ refl)
 
 same-length-4 : tie.Need-same-length-4 Inv-loop μ-loop
 same-length-4 c =
@@ -113,7 +124,8 @@ same-length-6 c =
 returns-2 : tie.Need-returns-2 Inv-loop μ-loop
 returns-2 c =
     let s = c .before .before .before .before .before .before .before in
-    went-all (s .args .l) (now (s .args .books)) (s .args .most) (now (s .args .events)) (now (s .args .table)) (now (s .args .tray)) (now (s .args .outs)) _ _ _ _ _ _ (c .before .loop .inv) (c .loop-test .left)
+    went-all (s .args .l) (now (s .args .books)) (s .args .most) (now (s .args .events)) (now (s .args .table)) (now (s .args .tray))
+    (now (s .args .outs)) _ _ _ _ _ _ (c .before .loop .inv) (c .loop-test .left)
 
 pub all-spec : {M : Type 1} → statement M
 all-spec =

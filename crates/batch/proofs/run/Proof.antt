@@ -1,5 +1,5 @@
 use denote.Ref.{now}
-use mathlib.Core.Path.{refl, sym, ap, _∙_}
+use mathlib.Core.Path.{sym, _∙_}
 use native.Mathlib.Omega.{arith}
 use Rattle.checks.proofs.Lending.{lent-table}
 use Rattle.batch.proofs.Refusing.{went-refused, no-table, went-is}
@@ -19,7 +19,8 @@ enum-known-verdict c = search needs
 on-table-requires : tie.Need-on-table-requires
 on-table-requires c κs =
     let e = sym (c .before .before .before .before .before .before .lent .ensures) ∙ c .before .before .before .before .verdict .given .1 in
-    let z = c .before .before .before .before .before .before .before .before .before .before .before .before .before .before .slice-known .given in
+    let z = c .before .before .before .before .before .before .before .before .before .before .before .before .before
+    .before .slice-known .given in
     (lent-table _ _ _ _ (λ i. let f = z i in search needs) e, e)
 
 enum-told : tie.Need-enum-told
@@ -39,7 +40,9 @@ same-length-3 c = search needs
 
 returns : tie.Need-returns
 returns c =
-    went-is _ _ _ _ _ _ _ _ _ _ _ _ (c .before .before .before .before .before .before .before .before .before .before .before .before .before .before .before .marks-of-bytes .ensures) (c .before .before .before .before .before .before .on-table .ensures)
+    went-is _ _ _ _ _ _ _ _ _ _ _ _
+    (c .before .before .before .before .before .before .before .before .before .before .before .before .before .before
+    .before .marks-of-bytes .ensures) (c .before .before .before .before .before .before .on-table .ensures)
 
 same-length-4 : tie.Need-same-length-4
 same-length-4 c = search needs
@@ -49,7 +52,11 @@ returns-2 c =
     let s = c .before .before .before .before .before .before .before .before .before .before .before .before in
     let m = c .before .before .before .before .before .marks-of-bytes in
     let l = m .result in
-    went-is _ _ _ _ _ _ _ _ _ _ _ _ (m .ensures) (went-refused l (now (s .args .books)) (s .args .most) (now (s .args .events)) (now (s .args .table)) (now (s .args .tray)) (now (s .args .outs)) 1 _ (c .refused .ensures) (no-table l (now (s .args .books)) (s .args .most) (now (s .args .events)) (now (s .args .table)) (now (s .args .tray)) (now (s .args .outs)) (sym (c .before .before .before .lent .ensures) ∙ c .before .enum-told .given .1)) (λ z. omega (arith, z)))
+    went-is _ _ _ _ _ _ _ _ _ _ _ _ (m .ensures)
+    (went-refused l (now (s .args .books)) (s .args .most) (now (s .args .events)) (now (s .args .table)) (now (s .args .tray))
+    (now (s .args .outs)) 1 _ (c .refused .ensures)
+    (no-table l (now (s .args .books)) (s .args .most) (now (s .args .events)) (now (s .args .table)) (now (s .args .tray))
+    (now (s .args .outs)) (sym (c .before .before .before .lent .ensures) ∙ c .before .enum-told .given .1)) (λ z. omega (arith, z)))
 
 pub run-spec : {M : Type 1} → statement M
 run-spec =

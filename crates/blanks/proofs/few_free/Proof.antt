@@ -30,7 +30,8 @@ returns : tie.Need-returns Inv-loop μ-loop
 returns c =
     let a = c .before .before .before .before .before .args in
     let l = c .before .before .before .loop in
-    sym (l .inv ∙ free-used (placeOf 8 (a .at) (a .books .now)) (a .n) (l .k) _ (c .before .before .loop-test .taken) (c .before .u64-at .ensures) (c .if1 .taken))
+    sym (l .inv ∙ free-used (placeOf 8 (a .at) (a .books .now)) (a .n) (l .k) _ (c .before .before .loop-test .taken)
+    (c .before .u64-at .ensures) (c .if1 .taken))
 
 add-k : tie.Need-add-k Inv-loop μ-loop
 add-k c = search needs
@@ -42,7 +43,8 @@ loop-again : tie.Need-loop-again Inv-loop μ-loop
 loop-again c =
     let a = c .before .before .before .before .before .args in
     let l = c .before .before .before .loop in
-    l .inv ∙ free-more (placeOf 8 (a .at) (a .books .now)) (a .n) (l .k) _ (c .before .before .loop-test .taken) (c .before .u64-at .ensures) (c .if1 .left)
+    l .inv ∙ free-more (placeOf 8 (a .at) (a .books .now)) (a .n) (l .k) _ (c .before .before .loop-test .taken)
+    (c .before .u64-at .ensures) (c .if1 .left)
 
 returns-2 : tie.Need-returns-2 Inv-loop μ-loop
 returns-2 c =

@@ -35,7 +35,8 @@ u64-at-requires-4 c κs = search needs
 returns : tie.Need-returns
 returns c =
     let a = c .before .before .before .before .before .args in
-    rw (c .before .before .before .u64-at .ensures, c .before .before .u64-at2 .ensures, c .before .u64-at3 .ensures, c .u64-at4 .ensures) (four (a .books .now) (a .at) (a .i))
+    rw (c .before .before .before .u64-at .ensures, c .before .before .u64-at2 .ensures, c .before .u64-at3 .ensures, c .u64-at4 .ensures)
+    (four (a .books .now) (a .at) (a .i))
 
 pub four-free-spec : {M : Type 1} → statement M
 four-free-spec =

@@ -28,7 +28,8 @@ returns : tie.Need-returns Inv-loop μ-loop
 returns c =
     let l = c .before .before .before .loop in
     let a = c .before .before .before .before .before .args in
-    sym (l .inv .1 ∙ eight-used (placeOf 8 (a .at) (a .books .now)) (a .n) (l .k) (c .before .before .loop-test .taken) (sym (c .before .eight-free .ensures) ∙ not-true _ (c .if1 .taken)))
+    sym (l .inv .1 ∙ eight-used (placeOf 8 (a .at) (a .books .now)) (a .n) (l .k) (c .before .before .loop-test .taken)
+    (sym (c .before .eight-free .ensures) ∙ not-true _ (c .if1 .taken)))
 
 add-k : tie.Need-add-k Inv-loop μ-loop
 add-k c = search needs
@@ -39,8 +40,11 @@ loop-less c = search needs
 loop-again : tie.Need-loop-again Inv-loop μ-loop
 loop-again c =
     let l = c .before .before .before .loop in
-    let a = c .before .before .before .before .before .args in
-    (search needs, l .inv .1 ∙ eight-more (placeOf 8 (a .at) (a .books .now)) (a .n) (l .k) (c .before .before .loop-test .taken) (sym (c .before .eight-free .ensures) ∙ not-false _ (c .if1 .left)))
+    let a = c .before .before .before .before .before .args in (
+      search needs,
+      l .inv .1 ∙ eight-more (placeOf 8 (a .at) (a .books .now)) (a .n) (l .k) (c .before .before .loop-test .taken)
+          (sym (c .before .eight-free .ensures) ∙ not-false _ (c .if1 .left)),
+    )
 
 few-free-requires : tie.Need-few-free-requires Inv-loop μ-loop
 few-free-requires c κs = search needs

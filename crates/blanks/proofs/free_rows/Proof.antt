@@ -31,7 +31,8 @@ free-requires c κs = search needs
 returns-2 : tie.Need-returns-2
 returns-2 c =
     let a = c .before .before .before .before .before .args in
-    c .free .ensures ∙ sym (free-odd (a .books .now) (a .at) 512 (a .i) _ (omega arith) (c .before .before .before .if1 .taken) (c .before .before .u32-at .ensures) (c .before .if2 .left))
+    c .free .ensures ∙ sym (free-odd (a .books .now) (a .at) 512 (a .i) _ (omega arith) (c .before .before .before .if1 .taken)
+    (c .before .before .u32-at .ensures) (c .before .if2 .left))
 
 free-requires-2 : tie.Need-free-requires-2
 free-requires-2 c κs = search needs

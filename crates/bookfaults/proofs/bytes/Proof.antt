@@ -1,9 +1,7 @@
 -- `bytes` meets its contract. Assumes nothing.
-use mathlib.Core.Path.{_≡_, sym, _∙_}
-use mathlib.Core.Bool.{true, false}
+use mathlib.Core.Path.{sym, _∙_}
 use native.Mathlib.Omega.{arith}
 use borrow.Author.Tests.{eq-eqb, ne-eqb}
-use lib.Dec.{eqb}
 use lib.ListN.{length}
 use Rattle.books.specs.Packed.{bookBytes, headOf}
 use Rattle.bookfaults.specs.Clauses.{bytesFault}
@@ -29,7 +27,12 @@ unfolding bytesFault
 returns-2 c =
     let u = c .before .before in
     let bs = u .before .before .before .args .books .now in
-    rw (c .whole2 .ensures, eq-eqb (length bs) bookBytes (omega (arith, u .before .if1 .left)), ne-eqb (headOf bs) 0 (λ z. c .before .if2 .taken (u .u64-at .ensures ∙ z)))
+    rw (
+      c .whole2 .ensures,
+      eq-eqb (length bs) bookBytes (omega (arith, u .before .if1 .left)),
+      ne-eqb (headOf bs) 0
+          (λ z. c .before .if2 .taken (u .u64-at .ensures ∙ z)),
+    )
 
 fault-requires : tie.Need-fault-requires
 fault-requires c κs = search needs
@@ -52,7 +55,16 @@ returns-3 c =
     let f = c .before .before .before .before in
     let u = f .before .before in
     let bs = u .before .before .before .args .books .now in
-    rw (c .or-else2 .ensures, c .before .or-else .ensures, f .fault .ensures, c .before .before .before .fault2 .ensures, c .before .before .fault3 .ensures, eq-eqb (length bs) bookBytes (omega (arith, u .before .if1 .left)), eq-eqb (headOf bs) 0 (sym (u .u64-at .ensures) ∙ omega (arith, f .before .if2 .left)))
+    rw (
+      c .or-else2 .ensures,
+      c .before .or-else .ensures,
+      f .fault .ensures,
+      c .before .before .before .fault2 .ensures,
+      c .before .before .fault3 .ensures,
+      eq-eqb (length bs) bookBytes (omega (arith, u .before .if1 .left)),
+      eq-eqb (headOf bs) 0
+          (sym (u .u64-at .ensures) ∙ omega (arith, f .before .if2 .left)),
+    )
 
 pub bytes-spec : {M : Type 1} → statement M
 bytes-spec =

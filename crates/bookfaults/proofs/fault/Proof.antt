@@ -1,5 +1,4 @@
 -- `fault` meets its contract. Assumes nothing.
-use mathlib.Core.Path.{_≡_}
 use Rattle.bookfaults.specs.Clauses.{booksFault}
 use borrow.Author.Needs.{needs}
 use Rattle.bookfaults.proofs.fault.Statement.{statement}
@@ -19,7 +18,12 @@ or-else-requires c κs = search needs
 
 returns : tie.Need-returns
 unfolding booksFault
-returns c = rw (c .or-else .ensures, c .before .bytes .ensures, c .before .before .fault .ensures, c .before .before .before .before .marks-of-bytes .ensures)
+returns c = rw (
+  c .or-else .ensures,
+  c .before .bytes .ensures,
+  c .before .before .fault .ensures,
+  c .before .before .before .before .marks-of-bytes .ensures,
+)
 
 pub fault-spec : {M : Type 1} → statement M
 fault-spec =

@@ -16,7 +16,8 @@ returns : tie.Need-returns
 returns c =
     let s = c .before .before .before .before in
     named-alone _ (s .pre .1 .0) (s .args .tn) (s .pre .1 .1) _
-    (partner-split (s .args .books .now) (s .args .tn) _ _ (c .before .before .code-of .ensures) (c .before .partner .ensures)) (c .if1 .taken)
+    (partner-split (s .args .books .now) (s .args .tn) _ _ (c .before .before .code-of .ensures) (c .before .partner .ensures))
+    (c .if1 .taken)
 
 mul-t7 : tie.Need-mul-t7
 mul-t7 c =
@@ -33,7 +34,8 @@ add-t9 c =
     omega (
       arith,
       twin-small _ (s .pre .1 .0) (s .args .tn) (s .pre .1 .1) _
-          (partner-split (s .args .books .now) (s .args .tn) _ _ (c .before .before .before .code-of .ensures) (c .before .before .partner .ensures)),
+          (partner-split (s .args .books .now) (s .args .tn) _ _ (c .before .before .before .code-of .ensures)
+          (c .before .before .partner .ensures)),
     )
 
 returns-2 : tie.Need-returns-2

@@ -36,7 +36,8 @@ cast-result c = search needs
 returns : tie.Need-returns Inv-loop μ-loop
 unfolding ownerOf
 returns c =
-    λ m. sym (c .before .before .before .loop .inv ∙ owner-here _ (codePlace _) rowPlaces _ _ (c .before .before .loop-test .taken) (c .before .u32-at .ensures) (c .if1 .taken))
+    λ m. sym (c .before .before .before .loop .inv ∙ owner-here _ (codePlace _) rowPlaces _ _ (c .before .before .loop-test .taken)
+    (c .before .u32-at .ensures) (c .if1 .taken))
 
 add-i : tie.Need-add-i Inv-loop μ-loop
 add-i c = search needs
@@ -46,7 +47,8 @@ loop-less c = search needs
 
 loop-again : tie.Need-loop-again Inv-loop μ-loop
 loop-again c =
-    c .before .before .before .loop .inv ∙ owner-next _ (codePlace _) rowPlaces _ _ (c .before .before .loop-test .taken) (c .before .u32-at .ensures) (c .if1 .left)
+    c .before .before .before .loop .inv ∙ owner-next _ (codePlace _) rowPlaces _ _ (c .before .before .loop-test .taken)
+    (c .before .u32-at .ensures) (c .if1 .left)
 
 returns-2 : tie.Need-returns-2 Inv-loop μ-loop
 unfolding ownerOf

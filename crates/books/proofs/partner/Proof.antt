@@ -13,7 +13,8 @@ use Rattle.books.proofs.partner.Statement.{statement}
 use Rattle.books.proofs.partner.Tie as tie
 
 abbrev Inv-loop : tie.InvT-loop
-Inv-loop books code i₀ i = partnerBy code (restOf (splitPlace books) splitPlaces 0) ≡ partnerBy code (restOf (splitPlace books) splitPlaces i)
+Inv-loop books code i₀ i = partnerBy code (restOf (splitPlace books) splitPlaces 0)
+    ≡ partnerBy code (restOf (splitPlace books) splitPlaces i)
 
 abbrev μ-loop : tie.MeasureT-loop
 μ-loop books code i₀ i = splitPlaces - i
@@ -33,12 +34,15 @@ u64-at-requires c κs = search needs
 returns : tie.Need-returns Inv-loop μ-loop
 unfolding partnerOf
 returns c =
-    λ m. sym (c .before .before .before .loop .inv ∙ partner-one _ (splitPlace _) splitPlaces _ _ (c .before .before .loop-test .taken) (c .before .u64-at .ensures) (c .if1 .taken))
+    λ m. sym (c .before .before .before .loop .inv ∙ partner-one _ (splitPlace _) splitPlaces _ _ (c .before .before .loop-test .taken)
+    (c .before .u64-at .ensures) (c .if1 .taken))
 
 returns-2 : tie.Need-returns-2 Inv-loop μ-loop
 unfolding partnerOf
 returns-2 c =
-    λ m. sym (c .before .before .before .before .loop .inv ∙ partner-other _ (splitPlace _) splitPlaces _ _ (c .before .before .before .loop-test .taken) (c .before .before .u64-at .ensures) (c .before .if1 .left) (c .if2 .taken))
+    λ m. sym (c .before .before .before .before .loop .inv
+    ∙ partner-other _ (splitPlace _) splitPlaces _ _ (c .before .before .before .loop-test .taken) (c .before .before .u64-at .ensures)
+    (c .before .if1 .left) (c .if2 .taken))
 
 add-i : tie.Need-add-i Inv-loop μ-loop
 add-i c = search needs
@@ -48,7 +52,9 @@ loop-less c = search needs
 
 loop-again : tie.Need-loop-again Inv-loop μ-loop
 loop-again c =
-    c .before .before .before .before .loop .inv ∙ partner-next _ (splitPlace _) splitPlaces _ _ (c .before .before .before .loop-test .taken) (c .before .before .u64-at .ensures) (c .before .if1 .left) (c .if2 .left)
+    c .before .before .before .before .loop .inv
+    ∙ partner-next _ (splitPlace _) splitPlaces _ _ (c .before .before .before .loop-test .taken) (c .before .before .u64-at .ensures)
+    (c .before .if1 .left) (c .if2 .left)
 
 returns-3 : tie.Need-returns-3 Inv-loop μ-loop
 unfolding partnerOf

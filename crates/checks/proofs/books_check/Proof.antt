@@ -13,11 +13,13 @@ sound-requires c κs = search needs
 
 returns : tie.Need-returns
 returns c =
-    checks _ _ _ _ _ (c .before .before .before .marks-of-bytes .ensures) (c .before .sound .ensures) (sym (ap (λ (b : Bool). cond b 0 1) (c .if1 .taken)))
+    checks _ _ _ _ _ (c .before .before .before .marks-of-bytes .ensures) (c .before .sound .ensures)
+    (sym (ap (λ (b : Bool). cond b 0 1) (c .if1 .taken)))
 
 returns-2 : tie.Need-returns-2
 returns-2 c =
-    checks _ _ _ _ _ (c .before .before .before .marks-of-bytes .ensures) (c .before .sound .ensures) (sym (ap (λ (b : Bool). cond b 0 1) (c .if1 .left)))
+    checks _ _ _ _ _ (c .before .before .before .marks-of-bytes .ensures) (c .before .sound .ensures)
+    (sym (ap (λ (b : Bool). cond b 0 1) (c .if1 .left)))
 
 pub books-check-spec : {M : Type 1} → statement M
 books-check-spec =

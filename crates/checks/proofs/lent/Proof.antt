@@ -26,7 +26,8 @@ returns c = search needs
 
 returns-2 : tie.Need-returns-2
 returns-2 c =
-    lent-unscanned (c .before .before .before .before .before .args .l) _ _ (sym (c .before .before .verdict .ensures) ∙ c .enum-told .given .1)
+    lent-unscanned (c .before .before .before .before .before .args .l) _ _
+    (sym (c .before .before .verdict .ensures) ∙ c .enum-told .given .1)
 
 pub lent-spec : {M : Type 1} → statement M
 lent-spec = tie.close (tie.spec verdict-requires enum-known-verdict with-books-requires enum-told returns returns-2)

@@ -1,5 +1,4 @@
 -- `table_check` meets its contract. Assumes nothing.
-use mathlib.Core.Path.{_≡_, sym, ap, _∙_}
 use Rattle.checks.proofs.Lending.{checked-is}
 use borrow.Author.Needs.{needs}
 use Rattle.checks.proofs.table_check.Statement.{statement}

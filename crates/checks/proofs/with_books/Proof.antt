@@ -1,6 +1,5 @@
 -- `with_books` meets its contract. Assumes nothing.
-use mathlib.Core.Path.{sym, ap, _∙_}
-use mathlib.Core.Bool.{Bool, _&&_}
+use mathlib.Core.Path.{sym, _∙_}
 use Rattle.model.proofs.Lists.{and-r}
 use Rattle.books.proofs.Given.{sound-length, sound-splits}
 use Rattle.checks.proofs.Lending.{kept-books, lent-sound, lent-unlined, lent-unkept}
@@ -20,13 +19,15 @@ sound-requires-2 c κs =
 returns : tie.Need-returns
 returns c =
     let s = c .before .before .before .before .before .before in
-    lent-sound (s .args .l) _ _ (s .args .n) (s .pre .1) (kept-books (s .args .l) _ _ (c .before .before .before .sound .ensures) (c .before .before .if1 .taken))
+    lent-sound (s .args .l) _ _ (s .args .n) (s .pre .1)
+    (kept-books (s .args .l) _ _ (c .before .before .before .sound .ensures) (c .before .before .if1 .taken))
     (sym (c .before .sound2 .ensures) ∙ c .if2 .taken)
 
 returns-2 : tie.Need-returns-2
 returns-2 c =
     let s = c .before .before .before .before .before .before in
-    lent-unlined (s .args .l) _ _ (s .args .n) (s .pre .1) (kept-books (s .args .l) _ _ (c .before .before .before .sound .ensures) (c .before .before .if1 .taken))
+    lent-unlined (s .args .l) _ _ (s .args .n) (s .pre .1)
+    (kept-books (s .args .l) _ _ (c .before .before .before .sound .ensures) (c .before .before .if1 .taken))
     (sym (c .before .sound2 .ensures) ∙ c .if2 .left)
 
 returns-3 : tie.Need-returns-3

@@ -27,7 +27,8 @@ returns c = rw (sym (c .before .before .before .before .narrowed .ensures)) (c .
 returns-2 : tie.Need-returns-2
 returns-2 c =
     let a = c .before .before .before .args in
-    wide-refused (event (a .kind) (a .sender) (a .other) (a .mark) (a .cause) (a .tn) (a .lrn) (a .version) (a .time) (a .due)) (now (a .out))
+    wide-refused (event (a .kind) (a .sender) (a .other) (a .mark) (a .cause) (a .tn) (a .lrn) (a .version) (a .time) (a .due))
+    (now (a .out))
     _ (c .before .fits-bits .ensures) (c .if1 .left)
 
 pub write-spec : {M : Type 1} → statement M

@@ -23,8 +23,11 @@ loop-holds : tie.Need-loop-holds Inv-loop μ-loop
 unfolding lineFault
 loop-holds c =
     let s = c .before .before in
-    let a = s .args in
-    (omega arith, ap (λ (k : ℕ). firstFault (rowFound (lineIn (splitsOf (a .books .now))) (decode (a .t .now))) k 0) (omega (arith, s .pre .0 .count)))
+    let a = s .args in (
+      omega arith,
+      ap (λ (k : ℕ). firstFault (rowFound (lineIn (splitsOf (a .books .now))) (decode (a .t .now))) k 0)
+          (omega (arith, s .pre .0 .count)),
+    )
 
 found-requires : tie.Need-found-requires Inv-loop μ-loop
 found-requires c κs =
@@ -39,7 +42,8 @@ returns c =
     let l = c .before .before .before .before in
     let a = l .before .before .before .args in
     let f = c .before .before .found in
-    sym (l .loop .inv .1 ∙ fault-here (rowFound (lineIn (splitsOf (a .books .now))) (decode (a .t .now))) (a .n) (l .loop .i) (c .before .before .before .loop-test .taken) (f .result) (f .ensures) (c .if1 .taken))
+    sym (l .loop .inv .1 ∙ fault-here (rowFound (lineIn (splitsOf (a .books .now))) (decode (a .t .now))) (a .n) (l .loop .i)
+    (c .before .before .before .loop-test .taken) (f .result) (f .ensures) (c .if1 .taken))
 
 add-i : tie.Need-add-i Inv-loop μ-loop
 add-i c = omega arith
@@ -51,8 +55,11 @@ loop-again : tie.Need-loop-again Inv-loop μ-loop
 loop-again c =
     let l = c .before .before .before .before in
     let a = l .before .before .before .args in
-    let f = c .before .before .found in
-    (omega arith, l .loop .inv .1 ∙ fault-next (rowFound (lineIn (splitsOf (a .books .now))) (decode (a .t .now))) (a .n) (l .loop .i) (c .before .before .before .loop-test .taken) (f .result) (f .ensures) (omega (arith, c .if1 .left)))
+    let f = c .before .before .found in (
+      omega arith,
+      l .loop .inv .1 ∙ fault-next (rowFound (lineIn (splitsOf (a .books .now))) (decode (a .t .now))) (a .n) (l .loop .i)
+          (c .before .before .before .loop-test .taken) (f .result) (f .ensures) (omega (arith, c .if1 .left)),
+    )
 
 whole-requires : tie.Need-whole-requires Inv-loop μ-loop
 whole-requires c κs = search needs
@@ -61,7 +68,8 @@ returns-2 : tie.Need-returns-2 Inv-loop μ-loop
 returns-2 c =
     let l = c .before .before in
     let a = l .before .before .before .args in
-    c .whole .ensures ∙ sym (l .loop .inv .1 ∙ fault-end (rowFound (lineIn (splitsOf (a .books .now))) (decode (a .t .now))) (a .n) (l .loop .i) (c .before .loop-test .left))
+    c .whole .ensures ∙ sym (l .loop .inv .1 ∙ fault-end (rowFound (lineIn (splitsOf (a .books .now))) (decode (a .t .now))) (a .n)
+    (l .loop .i) (c .before .loop-test .left))
 
 pub fault-spec : {M : Type 1} → statement M
 fault-spec =

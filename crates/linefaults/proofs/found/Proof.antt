@@ -35,8 +35,10 @@ returns c =
     let s = l .before .before .before in
     let a = s .args in
     c .fine .ensures
-    ∙ found-alone (splitsOf (a .books .now)) (decode (a .t .now)) (a .i) (l .load .result) (l .load .ensures ∙ sound-load (a .t .now) (a .n) (s .pre .0) (a .i) (unpack []) (s .pre .1 .1))
-    (c .before .before .before .before .line-names .result) (c .before .before .before .before .line-names .ensures) (rowsIn (a .t .now)) (sound-good (a .t .now) (a .n) (s .pre .0)) (omega (arith, s .pre .0 .count, s .pre .1 .1)) (c .before .if1 .taken)
+    ∙ found-alone (splitsOf (a .books .now)) (decode (a .t .now)) (a .i) (l .load .result)
+    (l .load .ensures ∙ sound-load (a .t .now) (a .n) (s .pre .0) (a .i) (unpack []) (s .pre .1 .1))
+    (c .before .before .before .before .line-names .result) (c .before .before .before .before .line-names .ensures) (rowsIn (a .t .now))
+    (sound-good (a .t .now) (a .n) (s .pre .0)) (omega (arith, s .pre .0 .count, s .pre .1 .1)) (c .before .if1 .taken)
 
 shared-requires : tie.Need-shared-requires
 shared-requires c κs = search needs
@@ -46,8 +48,10 @@ returns-2 c =
     let l = c .before .before .before .before .before .before in
     let s = l .before .before .before in
     let a = s .args in
-    found-under (splitsOf (a .books .now)) (decode (a .t .now)) (a .i) (l .load .result) (l .load .ensures ∙ sound-load (a .t .now) (a .n) (s .pre .0) (a .i) (unpack []) (s .pre .1 .1))
-    (c .before .before .before .before .line-names .result) (c .before .before .before .before .line-names .ensures) (c .shared .result) (c .shared .ensures)
+    found-under (splitsOf (a .books .now)) (decode (a .t .now)) (a .i) (l .load .result)
+    (l .load .ensures ∙ sound-load (a .t .now) (a .n) (s .pre .0) (a .i) (unpack []) (s .pre .1 .1))
+    (c .before .before .before .before .line-names .result) (c .before .before .before .before .line-names .ensures) (c .shared .result)
+    (c .shared .ensures)
 
 pub found-spec : {M : Type 1} → statement M
 found-spec =

@@ -40,7 +40,8 @@ returns c =
     let st = l .before .before in
     let a = st .args in
     rival-here (a .n) (a .names .low .0) (a .names .high .0) (decode (a .t .now)) (a .v) (l .loop .j) (d .before .loop-test .taken) _
-    (d .load .ensures ∙ sound-load (a .t .now) (a .used) (st .pre .0) (l .loop .j - 1) (unpack []) (omega (arith, st .pre .1, l .loop .inv .0, d .before .loop-test .taken))) _ (c .before .collide .ensures) (c .if1 .taken)
+    (d .load .ensures ∙ sound-load (a .t .now) (a .used) (st .pre .0) (l .loop .j - 1) (unpack [])
+    (omega (arith, st .pre .1, l .loop .inv .0, d .before .loop-test .taken))) _ (c .before .collide .ensures) (c .if1 .taken)
     ∙ sym (l .loop .inv .1)
 
 sub-j : tie.Need-sub-j Inv-loop μ-loop
@@ -57,15 +58,18 @@ loop-again c =
     let a = st .args in (
       omega arith,
       l .loop .inv .1
-          ∙ rival-next (a .n) (a .names .low .0) (a .names .high .0) (decode (a .t .now)) (a .v) (l .loop .j) (d .before .loop-test .taken) _
-          (d .load .ensures ∙ sound-load (a .t .now) (a .used) (st .pre .0) (l .loop .j - 1) (unpack []) (omega (arith, st .pre .1, l .loop .inv .0, d .before .loop-test .taken))) _ (c .before .collide .ensures) (c .if1 .left),
+          ∙ rival-next (a .n) (a .names .low .0) (a .names .high .0) (decode (a .t .now)) (a .v) (l .loop .j)
+          (d .before .loop-test .taken) _
+          (d .load .ensures ∙ sound-load (a .t .now) (a .used) (st .pre .0) (l .loop .j - 1) (unpack [])
+          (omega (arith, st .pre .1, l .loop .inv .0, d .before .loop-test .taken))) _ (c .before .collide .ensures) (c .if1 .left),
     )
 
 returns-2 : tie.Need-returns-2 Inv-loop μ-loop
 returns-2 c =
     let l = c .before in
     let a = l .before .before .args in
-    rival-end (a .n) (a .names .low .0) (a .names .high .0) (decode (a .t .now)) (a .v) (l .loop .j) (omega (arith, c .loop-test .left)) ∙ sym (l .loop .inv .1)
+    rival-end (a .n) (a .names .low .0) (a .names .high .0) (decode (a .t .now)) (a .v) (l .loop .j) (omega (arith, c .loop-test .left))
+    ∙ sym (l .loop .inv .1)
 
 pub rival-spec : {M : Type 1} → statement M
 rival-spec =

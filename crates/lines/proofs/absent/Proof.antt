@@ -34,7 +34,8 @@ returns c =
     let w = c .before .before .head in
     let h = c .before .before .before .if1 .taken in
     let g = tells (a .t .now) (a .n) (at .result) (w .result) (st .pre .0) h (w .ensures) (omega arith) in
-    absent-at (a .k) (omega arith) (decode (a .t .now)) (at .result) (at .ensures) (listed (a .t .now) (a .n) (st .pre .0)) (omega (arith, st .pre .0 .count, h)) (w .result / 16384) (g .key)
+    absent-at (a .k) (omega arith) (decode (a .t .now)) (at .result) (at .ensures) (listed (a .t .now) (a .n) (st .pre .0))
+    (omega (arith, st .pre .0 .count, h)) (w .result / 16384) (g .key)
 
 returns-2 : tie.Need-returns-2
 returns-2 c =

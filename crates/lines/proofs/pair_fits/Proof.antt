@@ -1,4 +1,5 @@
--- `lines::pair_fits` meets its contract. The loop's invariant: the rows from i on decide, and `at` is behind none of their places. Assumes nothing.
+-- `lines::pair_fits` meets its contract. The loop's invariant: the rows from i on decide, and `at` is behind none of their places. Assumes
+-- nothing.
 use Prim.Native.Nat.{_-_, _/_}
 use mathlib.Core.Path.{sym, _∙_}
 use native.Mathlib.Omega.{arith}
@@ -6,7 +7,8 @@ use borrow.Author.Tests.{not-true, not-false}
 use Rattle.rows.specs.Table.{decode}
 use Rattle.lines.proofs.Heads.{tells}
 use Rattle.lines.proofs.Passes.{listed}
-use Rattle.lines.proofs.Abreast.{Abreast, pair-unused, abreast-start, pair-out, pair-past, pair-behind, pair-reached, pair-fails, pair-on}
+use Rattle.lines.proofs.Abreast.{Abreast, pair-unused, abreast-start, pair-out, pair-past, pair-behind, pair-reached, pair-fails}
+use Rattle.lines.proofs.Abreast.{pair-on}
 use Rattle.lines.proofs.pair_fits.Statement.{statement}
 use Rattle.lines.proofs.pair_fits.Tie as tie
 
@@ -35,7 +37,8 @@ first-under-requires-2 c κs =
 loop-holds : tie.Need-loop-holds Inv-loop μ-loop
 loop-holds c =
     let a = c .before .before .before .before .before .args in
-    abreast-start (a .c) (a .d) (decode (a .t .now)) (c .before .before .before .first-under .result) (c .first-under2 .result) (c .before .before .before .first-under .ensures) (c .first-under2 .ensures)
+    abreast-start (a .c) (a .d) (decode (a .t .now)) (c .before .before .before .first-under .result) (c .first-under2 .result)
+    (c .before .before .before .first-under .ensures) (c .first-under2 .ensures)
 
 head-requires : tie.Need-head-requires Inv-loop μ-loop
 head-requires c κs =
@@ -50,7 +53,8 @@ returns-2 c =
     let w = c .before .head in
     let h = c .before .before .loop-test .taken in
     let g = tells (a .t .now) (a .n) (l .i) (w .result) (st .pre .0) h (w .ensures) (omega arith) in
-    sym (pair-past (a .c) (a .d) (decode (a .t .now)) (listed (a .t .now) (a .n) (st .pre .0)) (l .at) (l .i) (l .inv) (omega (arith, st .pre .0 .count, h)) (w .result / 1073741824) (g .tn) (c .if2 .taken))
+    sym (pair-past (a .c) (a .d) (decode (a .t .now)) (listed (a .t .now) (a .n) (st .pre .0)) (l .at) (l .i) (l .inv)
+    (omega (arith, st .pre .0 .count, h)) (w .result / 1073741824) (g .tn) (c .if2 .taken))
 
 mul-t11 : tie.Need-mul-t11 Inv-loop μ-loop
 mul-t11 c = omega (arith, c .before .before .before .before .before .before .before .before .before .pre .1 .0)
@@ -65,18 +69,28 @@ reach-requires c κs =
     let a = st .args in
     let w = c .before .head in
     let h = c .before .before .loop-test .taken in
-    let g = tells (a .t .now) (a .n) (l .i) (w .result) (st .pre .0) h (w .ensures) (omega arith) in
-    (st .pre .0, pair-behind (a .c) (a .d) (decode (a .t .now)) (listed (a .t .now) (a .n) (st .pre .0)) (l .at) (l .i) (l .inv) (omega (arith, st .pre .0 .count, h)) (w .result / 1073741824) (g .tn) (c .if2 .left))
+    let g = tells (a .t .now) (a .n) (l .i) (w .result) (st .pre .0) h (w .ensures) (omega arith) in (
+      st .pre .0,
+      pair-behind (a .c) (a .d) (decode (a .t .now)) (listed (a .t .now) (a .n) (st .pre .0)) (l .at) (l .i) (l .inv)
+          (omega (arith, st .pre .0 .count, h)) (w .result / 1073741824) (g .tn) (c .if2 .left),
+    )
 
-fitting-requires : tie.Need-fitting-requires Inv-loop μ-loop
-fitting-requires c κs =
+row-fits-requires : tie.Need-row-fits-requires Inv-loop μ-loop
+row-fits-requires c κs =
     let l = c .before .before .before .before .loop in
     let st = c .before .before .before .before .before .before .before .before .before .before in
     let a = st .args in
     let w = c .before .before .head in
     let h = c .before .before .before .loop-test .taken in
-    let g = tells (a .t .now) (a .n) (l .i) (w .result) (st .pre .0) h (w .ensures) (omega arith) in
-    (st .pre .0, ((st .pre .1 .0, h), pair-reached (a .c) (a .d) (decode (a .t .now)) (listed (a .t .now) (a .n) (st .pre .0)) (l .at) (l .i) (l .inv) (omega (arith, st .pre .0 .count, h)) (w .result / 1073741824) (g .tn) (c .before .if2 .left) (c .reach .result) (c .reach .ensures)))
+    let g = tells (a .t .now) (a .n) (l .i) (w .result) (st .pre .0) h (w .ensures) (omega arith) in (
+      st .pre .0,
+      (
+        (st .pre .1 .0, h),
+        pair-reached (a .c) (a .d) (decode (a .t .now)) (listed (a .t .now) (a .n) (st .pre .0)) (l .at)
+            (l .i) (l .inv) (omega (arith, st .pre .0 .count, h)) (w .result / 1073741824) (g .tn) (c .before .if2 .left) (c .reach .result)
+            (c .reach .ensures),
+      ),
+    )
 
 returns-3 : tie.Need-returns-3 Inv-loop μ-loop
 returns-3 c =
@@ -86,7 +100,10 @@ returns-3 c =
     let w = c .before .before .before .before .head in
     let h = c .before .before .before .before .before .loop-test .taken in
     let g = tells (a .t .now) (a .n) (l .i) (w .result) (st .pre .0) h (w .ensures) (omega arith) in
-    sym (pair-fails (a .c) (a .d) (decode (a .t .now)) (listed (a .t .now) (a .n) (st .pre .0)) (l .at) (l .i) (l .inv) (omega (arith, st .pre .0 .count, h)) (w .result / 1073741824) (g .tn) (c .before .before .before .if2 .left) (c .before .before .reach .result) (c .before .before .reach .ensures) (c .before .fitting .result) (c .before .fitting .ensures) (not-true _ (c .if3 .taken)))
+    sym (pair-fails (a .c) (a .d) (decode (a .t .now)) (listed (a .t .now) (a .n) (st .pre .0)) (l .at) (l .i) (l .inv)
+    (omega (arith, st .pre .0 .count, h)) (w .result / 1073741824) (g .tn) (c .before .before .before .if2 .left)
+    (c .before .before .reach .result) (c .before .before .reach .ensures) (c .before .row-fits .result) (c .before .row-fits .ensures)
+    (not-true _ (c .if3 .taken)))
 
 add-i : tie.Need-add-i Inv-loop μ-loop
 add-i c = omega arith
@@ -102,14 +119,18 @@ loop-again c =
     let w = c .before .before .before .before .head in
     let h = c .before .before .before .before .before .loop-test .taken in
     let g = tells (a .t .now) (a .n) (l .i) (w .result) (st .pre .0) h (w .ensures) (omega arith) in
-    pair-on (a .c) (a .d) (decode (a .t .now)) (listed (a .t .now) (a .n) (st .pre .0)) (l .at) (l .i) (l .inv) (omega (arith, st .pre .0 .count, h)) (w .result / 1073741824) (g .tn) (c .before .before .before .if2 .left) (c .before .before .reach .result) (c .before .before .reach .ensures) (c .before .fitting .result) (c .before .fitting .ensures) (not-false _ (c .if3 .left))
+    pair-on (a .c) (a .d) (decode (a .t .now)) (listed (a .t .now) (a .n) (st .pre .0)) (l .at) (l .i) (l .inv)
+    (omega (arith, st .pre .0 .count, h)) (w .result / 1073741824) (g .tn) (c .before .before .before .if2 .left)
+    (c .before .before .reach .result) (c .before .before .reach .ensures) (c .before .row-fits .result) (c .before .row-fits .ensures)
+    (not-false _ (c .if3 .left))
 
 returns-4 : tie.Need-returns-4 Inv-loop μ-loop
 returns-4 c =
     let l = c .before .loop in
     let st = c .before .before .before .before .before .before .before in
     let a = st .args in
-    sym (pair-out (a .c) (a .d) (decode (a .t .now)) (listed (a .t .now) (a .n) (st .pre .0)) (l .at) (l .i) (l .inv) (omega (arith, st .pre .0 .count, c .loop-test .left)))
+    sym (pair-out (a .c) (a .d) (decode (a .t .now)) (listed (a .t .now) (a .n) (st .pre .0)) (l .at) (l .i) (l .inv)
+    (omega (arith, st .pre .0 .count, c .loop-test .left)))
 
 pub pair-fits-spec : {M : Type 1} → statement M
 pair-fits-spec =
@@ -127,7 +148,7 @@ pair-fits-spec =
     mul-t11
     add-t14
     reach-requires
-    fitting-requires
+    row-fits-requires
     returns-3
     add-i
     loop-less

@@ -1,7 +1,6 @@
 -- `lines::place_from` meets its contract: the place is not before `at`. Assumes nothing.
-use Prim.Native.Nat.{_+_, _-_, _*_, _≤_, _<_}
+use Prim.Native.Nat.{_-_, _≤_}
 use native.Mathlib.Omega.{arith}
-use lib.ListN.{length}
 use Rattle.row.specs.Layout.{keyOf}
 use Rattle.rows.specs.Table.{decode}
 use Rattle.table.specs.Find.{placeIn}
@@ -42,7 +41,8 @@ returns c =
     let w = c .before .head in
     let h = c .before .before .loop-test .taken in
     let g = tells (a .t .now) (a .n) (l .at) (w .result) (st .pre .0) h (w .ensures) (omega arith) in
-    reach-here (keyOf (a .k)) (decode (a .t .now)) (l .at) (l .inv) (omega (arith, st .pre .0 .count, h)) (omega (arith, g .key, c .if1 .taken))
+    reach-here (keyOf (a .k)) (decode (a .t .now)) (l .at) (l .inv) (omega (arith, st .pre .0 .count, h))
+    (omega (arith, g .key, c .if1 .taken))
 
 place-requires : tie.Need-place-requires Inv-loop μ-loop
 place-requires c κs =
@@ -69,7 +69,8 @@ loop-again c =
     let w = c .before .before .head in
     let h = c .before .before .before .loop-test .taken in
     let g = tells (a .t .now) (a .n) (l .at) (w .result) (st .pre .0) h (w .ensures) (omega arith) in
-    reach-on (keyOf (a .k)) (decode (a .t .now)) (l .at) (l .inv) (omega (arith, st .pre .0 .count, h)) (omega (arith, g .key, c .before .if1 .left))
+    reach-on (keyOf (a .k)) (decode (a .t .now)) (l .at) (l .inv) (omega (arith, st .pre .0 .count, h))
+    (omega (arith, g .key, c .before .if1 .left))
 
 returns-3 : tie.Need-returns-3 Inv-loop μ-loop
 returns-3 c =

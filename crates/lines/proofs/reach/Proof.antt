@@ -32,7 +32,8 @@ returns c =
     let w = c .before .before .head in
     let h = c .before .before .before .loop-test .taken in
     let g = tells (a .t .now) (a .n) (l .at) (w .result) (st .pre .0) h (w .ensures) (omega arith) in
-    reach-here (a .tn .0 * 65536 + 0) (decode (a .t .now)) (l .at) (l .inv) (omega (arith, st .pre .0 .count, h)) (omega (arith, g .tn, c .if1 .taken))
+    reach-here (a .tn .0 * 65536 + 0) (decode (a .t .now)) (l .at) (l .inv) (omega (arith, st .pre .0 .count, h))
+    (omega (arith, g .tn, c .if1 .taken))
 
 add-at : tie.Need-add-at Inv-loop μ-loop
 add-at c = omega arith

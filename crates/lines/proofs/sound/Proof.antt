@@ -41,7 +41,8 @@ returns c =
     let w = splitPlace (a .books .now) in
     let xs = splitsOf (a .books .now) in
     let vs = decode (a .t .now) in
-    sym (pairs-free w splitPlaces (l .i) xs vs (l .inv) (c .before .u64-at .result) (c .before .u64-at .ensures) (c .if1 .taken)) ∙ pairs-lines xs (st .pre .1 .1) vs (rowsIn (a .t .now)) (st .pre .0 .sound)
+    sym (pairs-free w splitPlaces (l .i) xs vs (l .inv) (c .before .u64-at .result) (c .before .u64-at .ensures) (c .if1 .taken))
+    ∙ pairs-lines xs (st .pre .1 .1) vs (rowsIn (a .t .now)) (st .pre .0 .sound)
 
 pair-fits-requires : tie.Need-pair-fits-requires Inv-loop μ-loop
 pair-fits-requires c κs =
@@ -50,8 +51,11 @@ pair-fits-requires c κs =
     let a = st .args in
     let w = splitPlace (a .books .now) in
     let xs = splitsOf (a .books .now) in
-    let vs = decode (a .t .now) in
-    (st .pre .0, pair-codes w splitPlaces (l .i) xs vs (l .inv) (c .before .u64-at .result) (c .before .u64-at .ensures) (omega (arith, c .before .before .loop-test .taken)) (c .if1 .left))
+    let vs = decode (a .t .now) in (
+      st .pre .0,
+      pair-codes w splitPlaces (l .i) xs vs (l .inv) (c .before .u64-at .result) (c .before .u64-at .ensures)
+          (omega (arith, c .before .before .loop-test .taken)) (c .if1 .left),
+    )
 
 returns-2 : tie.Need-returns-2 Inv-loop μ-loop
 returns-2 c =
@@ -61,7 +65,10 @@ returns-2 c =
     let w = splitPlace (a .books .now) in
     let xs = splitsOf (a .books .now) in
     let vs = decode (a .t .now) in
-    sym (pairs-fail w splitPlaces (l .i) xs vs (l .inv) (c .before .before .before .u64-at .result) (c .before .before .before .u64-at .ensures) (omega (arith, c .before .before .before .before .loop-test .taken)) (c .before .before .if1 .left) (c .before .pair-fits .result) (c .before .pair-fits .ensures) (not-true _ (c .if2 .taken))) ∙ pairs-lines xs (st .pre .1 .1) vs (rowsIn (a .t .now)) (st .pre .0 .sound)
+    sym (pairs-fail w splitPlaces (l .i) xs vs (l .inv) (c .before .before .before .u64-at .result)
+    (c .before .before .before .u64-at .ensures) (omega (arith, c .before .before .before .before .loop-test .taken))
+    (c .before .before .if1 .left) (c .before .pair-fits .result) (c .before .pair-fits .ensures) (not-true _ (c .if2 .taken)))
+    ∙ pairs-lines xs (st .pre .1 .1) vs (rowsIn (a .t .now)) (st .pre .0 .sound)
 
 add-i : tie.Need-add-i Inv-loop μ-loop
 add-i c = search needs
@@ -77,7 +84,9 @@ loop-again c =
     let w = splitPlace (a .books .now) in
     let xs = splitsOf (a .books .now) in
     let vs = decode (a .t .now) in
-    pairs-on w splitPlaces (l .i) xs vs (l .inv) (c .before .before .before .u64-at .result) (c .before .before .before .u64-at .ensures) (omega (arith, c .before .before .before .before .loop-test .taken)) (c .before .before .if1 .left) (c .before .pair-fits .result) (c .before .pair-fits .ensures) (not-false _ (c .if2 .left))
+    pairs-on w splitPlaces (l .i) xs vs (l .inv) (c .before .before .before .u64-at .result) (c .before .before .before .u64-at .ensures)
+    (omega (arith, c .before .before .before .before .loop-test .taken)) (c .before .before .if1 .left) (c .before .pair-fits .result)
+    (c .before .pair-fits .ensures) (not-false _ (c .if2 .left))
 
 returns-3 : tie.Need-returns-3 Inv-loop μ-loop
 returns-3 c =
@@ -87,7 +96,8 @@ returns-3 c =
     let w = splitPlace (a .books .now) in
     let xs = splitsOf (a .books .now) in
     let vs = decode (a .t .now) in
-    sym (pairs-end w splitPlaces (l .i) xs vs (l .inv) (c .loop-test .left)) ∙ pairs-lines xs (st .pre .1 .1) vs (rowsIn (a .t .now)) (st .pre .0 .sound)
+    sym (pairs-end w splitPlaces (l .i) xs vs (l .inv) (c .loop-test .left))
+    ∙ pairs-lines xs (st .pre .1 .1) vs (rowsIn (a .t .now)) (st .pre .0 .sound)
 
 pub sound-spec : {M : Type 1} → statement M
 sound-spec =

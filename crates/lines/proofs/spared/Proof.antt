@@ -45,7 +45,8 @@ returns-2 c =
     let w = c .before .before .head in
     let h = c .before .before .before .loop-test .taken in
     let g = tells (a .t .now) (a .n) (l .i) (w .result) (st .pre .0) h (w .ensures) (omega arith) in
-    sym (spare-past (a .tn .0) (a .h) (decode (a .t .now)) (listed (a .t .now) (a .n) (st .pre .0)) (l .i) (l .inv .1) (omega (arith, st .pre .0 .count, h)) (l .inv .0) (w .result / 1073741824) (g .tn) (c .if2 .taken))
+    sym (spare-past (a .tn .0) (a .h) (decode (a .t .now)) (listed (a .t .now) (a .n) (st .pre .0)) (l .i) (l .inv .1)
+    (omega (arith, st .pre .0 .count, h)) (l .inv .0) (w .result / 1073741824) (g .tn) (c .if2 .taken))
 
 held-of-requires : tie.Need-held-of-requires Inv-loop μ-loop
 held-of-requires c κs = tt
@@ -61,7 +62,10 @@ returns-3 c =
     let w = c .before .before .before .before .before .head in
     let h = c .before .before .before .before .before .before .loop-test .taken in
     let g = tells (a .t .now) (a .n) (l .i) (w .result) (st .pre .0) h (w .ensures) (omega arith) in
-    sym (spare-fails (a .tn .0) (a .h) (decode (a .t .now)) (listed (a .t .now) (a .n) (st .pre .0)) (l .i) (l .inv .1) (omega (arith, st .pre .0 .count, h)) (w .result / 1073741824) (g .tn) (c .before .before .before .if2 .left) (c .before .before .held-of .result) (c .before .before .held-of .ensures ∙ g .held) (c .before .meets .result) (c .before .meets .ensures) (c .if3 .taken))
+    sym (spare-fails (a .tn .0) (a .h) (decode (a .t .now)) (listed (a .t .now) (a .n) (st .pre .0)) (l .i) (l .inv .1)
+    (omega (arith, st .pre .0 .count, h)) (w .result / 1073741824) (g .tn) (c .before .before .before .if2 .left)
+    (c .before .before .held-of .result) (c .before .before .held-of .ensures ∙ g .held) (c .before .meets .result)
+    (c .before .meets .ensures) (c .if3 .taken))
 
 add-i : tie.Need-add-i Inv-loop μ-loop
 add-i c = omega arith
@@ -78,7 +82,10 @@ loop-again c =
     let h = c .before .before .before .before .before .before .loop-test .taken in
     let g = tells (a .t .now) (a .n) (l .i) (w .result) (st .pre .0) h (w .ensures) (omega arith) in (
       omega (arith, l .inv .0),
-      spare-on (a .tn .0) (a .h) (decode (a .t .now)) (listed (a .t .now) (a .n) (st .pre .0)) (l .i) (l .inv .1) (omega (arith, st .pre .0 .count, h)) (w .result / 1073741824) (g .tn) (c .before .before .before .if2 .left) (c .before .before .held-of .result) (c .before .before .held-of .ensures ∙ g .held) (c .before .meets .result) (c .before .meets .ensures) (c .if3 .left),
+      spare-on (a .tn .0) (a .h) (decode (a .t .now)) (listed (a .t .now) (a .n) (st .pre .0)) (l .i) (l .inv .1)
+          (omega (arith, st .pre .0 .count, h)) (w .result / 1073741824) (g .tn) (c .before .before .before .if2 .left)
+          (c .before .before .held-of .result) (c .before .before .held-of .ensures ∙ g .held) (c .before .meets .result)
+          (c .before .meets .ensures) (c .if3 .left),
     )
 
 returns-4 : tie.Need-returns-4 Inv-loop μ-loop
@@ -86,7 +93,8 @@ returns-4 c =
     let l = c .before .loop in
     let st = c .before .before .before .before .before in
     let a = st .args in
-    sym (spare-out (a .tn .0) (a .h) (decode (a .t .now)) (listed (a .t .now) (a .n) (st .pre .0)) (l .i) (l .inv .1) (omega (arith, st .pre .0 .count, c .loop-test .left)))
+    sym (spare-out (a .tn .0) (a .h) (decode (a .t .now)) (listed (a .t .now) (a .n) (st .pre .0)) (l .i) (l .inv .1)
+    (omega (arith, st .pre .0 .count, c .loop-test .left)))
 
 pub spared-spec : {M : Type 1} → statement M
 spared-spec =

@@ -20,7 +20,8 @@ returns c =
     let w = c .head in
     let h = c .before .if1 .taken in
     let g = tells (a .t .now) (a .n) (a .at) (w .result) (st .pre .0) h (w .ensures) (omega arith) in
-    unused-at (a .c) (decode (a .t .now)) (a .at) (st .pre .1) (listed (a .t .now) (a .n) (st .pre .0)) (omega (arith, st .pre .0 .count, h)) (w .result / 1073741824) (g .tn)
+    unused-at (a .c) (decode (a .t .now)) (a .at) (st .pre .1) (listed (a .t .now) (a .n) (st .pre .0))
+    (omega (arith, st .pre .0 .count, h)) (w .result / 1073741824) (g .tn)
 
 returns-2 : tie.Need-returns-2
 returns-2 c =

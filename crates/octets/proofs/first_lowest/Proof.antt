@@ -53,7 +53,8 @@ add-wide-5 : tie.Need-add-wide-5
 add-wide-5 c = search needs
 
 shared-slice-read-wide-6 : tie.Need-shared-slice-read-wide-6
-shared-slice-read-wide-6 c = omega (arith, c .before .before .before .before .before .before .before .before .before .before .before .before .pre)
+shared-slice-read-wide-6 c =
+    omega (arith, c .before .before .before .before .before .before .before .before .before .before .before .before .pre)
 
 wide-requires-6 : tie.Need-wide-requires-6
 wide-requires-6 c κs = search needs
@@ -62,7 +63,8 @@ add-wide-6 : tie.Need-add-wide-6
 add-wide-6 c = search needs
 
 shared-slice-read-wide-7 : tie.Need-shared-slice-read-wide-7
-shared-slice-read-wide-7 c = omega (arith, c .before .before .before .before .before .before .before .before .before .before .before .before .before .before .pre)
+shared-slice-read-wide-7 c =
+    omega (arith, c .before .before .before .before .before .before .before .before .before .before .before .before .before .before .pre)
 
 wide-requires-7 : tie.Need-wide-requires-7
 wide-requires-7 c κs = search needs
@@ -71,7 +73,12 @@ add-wide-7 : tie.Need-add-wide-7
 add-wide-7 c = search needs
 
 shared-slice-read-wide-8 : tie.Need-shared-slice-read-wide-8
-shared-slice-read-wide-8 c = omega (arith, c .before .before .before .before .before .before .before .before .before .before .before .before .before .before .before .before .pre)
+shared-slice-read-wide-8 c =
+    omega (
+      arith,
+      c .before .before .before .before .before .before .before .before .before .before .before .before .before .before
+          .before .before .pre,
+    )
 
 wide-requires-8 : tie.Need-wide-requires-8
 wide-requires-8 c κs = search needs
@@ -89,13 +96,24 @@ mul-result-3 : tie.Need-mul-result-3
 mul-result-3 c = omega (arith, c .before .before .before .before .wide6 .ensures .1)
 
 add-result-2 : tie.Need-add-result-2
-add-result-2 c = omega (arith, c .wide8 .ensures .1, c .before .before .wide7 .ensures .1, c .before .before .before .before .wide6 .ensures .1)
+add-result-2 c = omega (
+  arith,
+  c .wide8 .ensures .1,
+  c .before .before .wide7 .ensures .1,
+  c .before .before .before .before .wide6 .ensures .1,
+)
 
 mul-result-4 : tie.Need-mul-result-4
 mul-result-4 c = omega (arith, c .before .before .before .before .before .before .wide5 .ensures .1)
 
 add-result-3 : tie.Need-add-result-3
-add-result-3 c = omega (arith, c .wide8 .ensures .1, c .before .before .wide7 .ensures .1, c .before .before .before .before .wide6 .ensures .1, c .before .before .before .before .before .before .wide5 .ensures .1)
+add-result-3 c = omega (
+  arith,
+  c .wide8 .ensures .1,
+  c .before .before .wide7 .ensures .1,
+  c .before .before .before .before .wide6 .ensures .1,
+  c .before .before .before .before .before .before .wide5 .ensures .1,
+)
 
 mul-result-5 : tie.Need-mul-result-5
 mul-result-5 c = omega (arith, c .before .before .before .before .before .before .before .before .wide4 .ensures .1)
@@ -104,19 +122,47 @@ mul-result-6 : tie.Need-mul-result-6
 mul-result-6 c = omega (arith, c .before .before .before .before .before .before .before .before .before .before .wide3 .ensures .1)
 
 add-result-4 : tie.Need-add-result-4
-add-result-4 c = omega (arith, c .before .before .before .before .before .before .before .before .wide4 .ensures .1, c .before .before .before .before .before .before .before .before .before .before .wide3 .ensures .1)
+add-result-4 c = omega (
+  arith,
+  c .before .before .before .before .before .before .before .before .wide4 .ensures .1,
+  c .before .before .before .before .before .before .before .before .before .before .wide3 .ensures .1,
+)
 
 mul-result-7 : tie.Need-mul-result-7
-mul-result-7 c = omega (arith, c .before .before .before .before .before .before .before .before .before .before .before .before .wide2 .ensures .1)
+mul-result-7 c = omega (
+  arith,
+  c .before .before .before .before .before .before .before .before .before .before .before .before .wide2 .ensures .1,
+)
 
 add-result-5 : tie.Need-add-result-5
-add-result-5 c = omega (arith, c .before .before .before .before .before .before .before .before .wide4 .ensures .1, c .before .before .before .before .before .before .before .before .before .before .wide3 .ensures .1, c .before .before .before .before .before .before .before .before .before .before .before .before .wide2 .ensures .1)
+add-result-5 c = omega (
+  arith,
+  c .before .before .before .before .before .before .before .before .wide4 .ensures .1,
+  c .before .before .before .before .before .before .before .before .before .before .wide3 .ensures .1,
+  c .before .before .before .before .before .before .before .before .before .before .before .before .wide2 .ensures .1,
+)
 
 add-result-6 : tie.Need-add-result-6
-add-result-6 c = omega (arith, c .before .before .before .before .before .before .before .before .wide4 .ensures .1, c .before .before .before .before .before .before .before .before .before .before .wide3 .ensures .1, c .before .before .before .before .before .before .before .before .before .before .before .before .wide2 .ensures .1, c .before .before .before .before .before .before .before .before .before .before .before .before .before .before .wide .ensures .1)
+add-result-6 c = omega (
+  arith,
+  c .before .before .before .before .before .before .before .before .wide4 .ensures .1,
+  c .before .before .before .before .before .before .before .before .before .before .wide3 .ensures .1,
+  c .before .before .before .before .before .before .before .before .before .before .before .before .wide2 .ensures .1,
+  c .before .before .before .before .before .before .before .before .before .before .before .before .before .before .wide .ensures .1,
+)
 
 add-result-7 : tie.Need-add-result-7
-add-result-7 c = omega (arith, c .before .before .before .before .before .before .before .before .before .before .before .before .before .before .wide .ensures .1, c .before .before .before .before .before .before .before .before .before .before .before .before .wide2 .ensures .1, c .before .before .before .before .before .before .before .before .before .before .wide3 .ensures .1, c .before .before .before .before .before .before .before .before .wide4 .ensures .1, c .before .before .before .before .before .before .wide5 .ensures .1, c .before .before .before .before .wide6 .ensures .1, c .before .before .wide7 .ensures .1, c .wide8 .ensures .1)
+add-result-7 c = omega (
+  arith,
+  c .before .before .before .before .before .before .before .before .before .before .before .before .before .before .wide .ensures .1,
+  c .before .before .before .before .before .before .before .before .before .before .before .before .wide2 .ensures .1,
+  c .before .before .before .before .before .before .before .before .before .before .wide3 .ensures .1,
+  c .before .before .before .before .before .before .before .before .wide4 .ensures .1,
+  c .before .before .before .before .before .before .wide5 .ensures .1,
+  c .before .before .before .before .wide6 .ensures .1,
+  c .before .before .wide7 .ensures .1,
+  c .wide8 .ensures .1,
+)
 
 returns : tie.Need-returns
 unfolding le

@@ -36,19 +36,34 @@ mul-result-2 : tie.Need-mul-result-2
 mul-result-2 c = omega (arith, c .before .before .before .before .before .before .low2 .ensures .1)
 
 add-result : tie.Need-add-result
-add-result c = omega (arith, c .before .before .before .before .before .before .before .low .ensures .1, c .before .before .before .before .before .before .low2 .ensures .1)
+add-result c = omega (
+  arith,
+  c .before .before .before .before .before .before .before .low .ensures .1,
+  c .before .before .before .before .before .before .low2 .ensures .1,
+)
 
 mul-result-3 : tie.Need-mul-result-3
 mul-result-3 c = omega (arith, c .before .before .before .before .before .low3 .ensures .1)
 
 add-result-2 : tie.Need-add-result-2
-add-result-2 c = omega (arith, c .before .before .before .before .before .before .before .low .ensures .1, c .before .before .before .before .before .before .low2 .ensures .1, c .before .before .before .before .before .low3 .ensures .1)
+add-result-2 c = omega (
+  arith,
+  c .before .before .before .before .before .before .before .low .ensures .1,
+  c .before .before .before .before .before .before .low2 .ensures .1,
+  c .before .before .before .before .before .low3 .ensures .1,
+)
 
 mul-result-4 : tie.Need-mul-result-4
 mul-result-4 c = omega (arith, c .before .before .before .before .low4 .ensures .1)
 
 add-result-3 : tie.Need-add-result-3
-add-result-3 c = omega (arith, c .before .before .before .before .before .before .before .low .ensures .1, c .before .before .before .before .before .before .low2 .ensures .1, c .before .before .before .before .before .low3 .ensures .1, c .before .before .before .before .low4 .ensures .1)
+add-result-3 c = omega (
+  arith,
+  c .before .before .before .before .before .before .before .low .ensures .1,
+  c .before .before .before .before .before .before .low2 .ensures .1,
+  c .before .before .before .before .before .low3 .ensures .1,
+  c .before .before .before .before .low4 .ensures .1,
+)
 
 mul-result-5 : tie.Need-mul-result-5
 mul-result-5 c = omega (arith, c .before .before .before .low5 .ensures .1)
@@ -63,16 +78,47 @@ mul-result-7 : tie.Need-mul-result-7
 mul-result-7 c = omega (arith, c .before .low7 .ensures .1)
 
 add-result-5 : tie.Need-add-result-5
-add-result-5 c = omega (arith, c .before .before .before .low5 .ensures .1, c .before .before .low6 .ensures .1, c .before .low7 .ensures .1)
+add-result-5 c = omega (
+  arith,
+  c .before .before .before .low5 .ensures .1,
+  c .before .before .low6 .ensures .1,
+  c .before .low7 .ensures .1,
+)
 
 add-result-6 : tie.Need-add-result-6
-add-result-6 c = omega (arith, c .before .before .before .low5 .ensures .1, c .before .before .low6 .ensures .1, c .before .low7 .ensures .1, c .low8 .ensures .1)
+add-result-6 c = omega (
+  arith,
+  c .before .before .before .low5 .ensures .1,
+  c .before .before .low6 .ensures .1,
+  c .before .low7 .ensures .1,
+  c .low8 .ensures .1,
+)
 
 add-result-7 : tie.Need-add-result-7
-add-result-7 c = omega (arith, c .before .before .before .before .before .before .before .low .ensures .1, c .before .before .before .before .before .before .low2 .ensures .1, c .before .before .before .before .before .low3 .ensures .1, c .before .before .before .before .low4 .ensures .1, c .before .before .before .low5 .ensures .1, c .before .before .low6 .ensures .1, c .before .low7 .ensures .1, c .low8 .ensures .1)
+add-result-7 c = omega (
+  arith,
+  c .before .before .before .before .before .before .before .low .ensures .1,
+  c .before .before .before .before .before .before .low2 .ensures .1,
+  c .before .before .before .before .before .low3 .ensures .1,
+  c .before .before .before .before .low4 .ensures .1,
+  c .before .before .before .low5 .ensures .1,
+  c .before .before .low6 .ensures .1,
+  c .before .low7 .ensures .1,
+  c .low8 .ensures .1,
+)
 
 returns : tie.Need-returns
-returns c = rw (c .before .before .before .before .before .before .before .low .ensures .0, c .before .before .before .before .before .before .low2 .ensures .0, c .before .before .before .before .before .low3 .ensures .0, c .before .before .before .before .low4 .ensures .0, c .before .before .before .low5 .ensures .0, c .before .before .low6 .ensures .0, c .before .low7 .ensures .0, c .low8 .ensures .0) (summed-turned (c .before .before .before .before .before .before .before .before .args .x))
+returns c = rw (
+  c .before .before .before .before .before .before .before .low .ensures .0,
+  c .before .before .before .before .before .before .low2 .ensures .0,
+  c .before .before .before .before .before .low3 .ensures .0,
+  c .before .before .before .before .low4 .ensures .0,
+  c .before .before .before .low5 .ensures .0,
+  c .before .before .low6 .ensures .0,
+  c .before .low7 .ensures .0,
+  c .low8 .ensures .0,
+)
+    (summed-turned (c .before .before .before .before .before .before .before .before .args .x))
 
 pub turn-spec : {M : Type 1} → statement M
 turn-spec =

@@ -17,7 +17,8 @@ turn-requires c κs = search needs
 returns : tie.Need-returns
 returns c =
     let a = c .before .before .before .args in
-    c .turn .ensures ∙ ap (λ (x : ℕ). turned 8 x) (c .before .first-lowest .ensures) ∙ turned-le (a .s .now) (λ i. c .before .before .shared-slice-known .given i .fits) 8 8 (a .at) (omega arith)
+    c .turn .ensures ∙ ap (λ (x : ℕ). turned 8 x) (c .before .first-lowest .ensures)
+    ∙ turned-le (a .s .now) (λ i. c .before .before .shared-slice-known .given i .fits) 8 8 (a .at) (omega arith)
 
 pub u64-at-spec : {M : Type 1} → statement M
 u64-at-spec = tie.close (tie.spec first-lowest-requires turn-requires returns)

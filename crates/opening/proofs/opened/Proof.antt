@@ -17,7 +17,12 @@ asked-for-requires c κs = search needs
 
 returns : tie.Need-returns
 unfolding opened
-returns c = rw (c .asked-for .ensures, c .before .confirmed-for .ensures, c .before .before .purpose-for .ensures, c .before .before .before .new-for .ensures)
+returns c = rw (
+  c .asked-for .ensures,
+  c .before .confirmed-for .ensures,
+  c .before .before .purpose-for .ensures,
+  c .before .before .before .new-for .ensures,
+)
 
 pub opened-spec : {M : Type 1} → statement M
 opened-spec =

@@ -38,8 +38,11 @@ loop-less c = search needs
 
 loop-again : tie.Need-loop-again Inv-loop μ-loop
 loop-again c =
-    let i = c .before .before .before .before .loop in
-    (search needs, bytes-more (c .before .before .before .before .before .before .args .bytes .now) (i .i) _ _ _ (i .inv .1) (c .before .entry .ensures) (c .grown .ensures))
+    let i = c .before .before .before .before .loop in (
+      search needs,
+      bytes-more (c .before .before .before .before .before .before .args .bytes .now) (i .i) _ _ _ (i .inv .1)
+          (c .before .entry .ensures) (c .grown .ensures),
+    )
 
 returns : tie.Need-returns Inv-loop μ-loop
 returns c =

@@ -38,7 +38,8 @@ well-formed-requires c κs = search needs
 
 -- once the fields are judged
 judged : (f : tie.After-well-formed) (w : Bool) → f .well-formed .result ≡ w
-    → cond w (Record (f .before .unpack .result)) Malformed ≡ readEvent (now (f .before .before .before .before .before .before .before .before .args .s))
+    → cond w (Record (f .before .unpack .result)) Malformed
+    ≡ readEvent (now (f .before .before .before .before .before .before .before .before .args .s))
 judged f w q =
     let u = f .before in
     let w3 = u .before .before in

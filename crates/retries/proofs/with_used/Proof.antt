@@ -1,6 +1,5 @@
 use borrow.Author.Needs.{needs}
 use borrow.Author.Tests.{le-leb, lt-leb}
-use mathlib.Core.Path.{ap, _∙_, refl}
 use Rattle.model.specs.Retries.{withUsed}
 use Rattle.retries.proofs.with_used.Statement.{statement}
 use Rattle.retries.proofs.with_used.Tie as tie

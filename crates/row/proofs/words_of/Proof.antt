@@ -18,7 +18,12 @@ pair-of-requires-2 c κs = search needs
 
 returns : tie.Need-returns
 unfolding wordsOf
-returns c = rw (c .before .before .before .head-of .ensures, c .before .before .terms-of .ensures, c .before .pair-of .ensures, c .pair-of2 .ensures)
+returns c = rw (
+  c .before .before .before .head-of .ensures,
+  c .before .before .terms-of .ensures,
+  c .before .pair-of .ensures,
+  c .pair-of2 .ensures,
+)
 
 pub words-of-spec : {M : Type 1} → statement M
 words-of-spec =

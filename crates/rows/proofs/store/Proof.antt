@@ -21,7 +21,8 @@ returns : tie.Need-returns
 unfolding pack
 returns c =
     let a = c .before .before .before .before .before .before .args in
-    c .before .before .put .ensures ∙ ap (λ (w : Words). putRow (a .t .now) (a .i) (bytesOf w)) (c .before .before .before .before .words-of .ensures)
+    c .before .before .put .ensures ∙ ap (λ (w : Words). putRow (a .t .now) (a .i) (bytesOf w))
+    (c .before .before .before .before .words-of .ensures)
 
 pub store-spec : {M : Type 1} → statement M
 store-spec = tie.close (tie.spec words-of-requires put-requires same-length returns)

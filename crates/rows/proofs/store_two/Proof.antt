@@ -20,7 +20,8 @@ same-length c = search needs
 returns : tie.Need-returns
 returns c =
     let a = c .before .before .before .before .before .before .before .before .before .args in
-    c .before .before .store2 .ensures ∙ ap (λ (l : List ℕ). putRow l (a .j) (pack (a .w))) (c .before .before .before .before .before .before .store .ensures)
+    c .before .before .store2 .ensures
+    ∙ ap (λ (l : List ℕ). putRow l (a .j) (pack (a .w))) (c .before .before .before .before .before .before .store .ensures)
 
 pub store-two-spec : {M : Type 1} → statement M
 store-two-spec = tie.close (tie.spec store-requires store-requires-2 same-length returns)

@@ -29,15 +29,20 @@ returns c =
     let a = c .before .before .before .before .before .before .args in
     let e = c .before .before .before .version-of .ensures in (
       c .follow .ensures .0 ∙ ap (joinOf (groupOf (a .s))) e
-          ∙ admit-sound (groupOf (a .s)) (a .w) (sym (c .before .before .before .before .before .spare-free .ensures) ∙ c .before .before .before .before .if1 .taken) (ap soundVersion (sym e) ∙ sym (c .before .before .sound-version .ensures) ∙ c .before .if2 .taken),
+          ∙ admit-sound (groupOf (a .s)) (a .w) (sym (c .before .before .before .before .before .spare-free .ensures)
+          ∙ c .before .before .before .before .if1 .taken) (ap soundVersion (sym e) ∙ sym (c .before .before .sound-version .ensures)
+          ∙ c .before .if2 .taken),
       c .follow .ensures .1,
     )
 
 returns-2 : tie.Need-returns-2
 returns-2 c =
     let a = c .before .before .before .before .before .args in
-    let e = c .before .before .version-of .ensures in
-    (admit-unsound (groupOf (a .s)) (a .w) (sym (c .before .before .before .before .spare-free .ensures) ∙ c .before .before .before .if1 .taken) (ap soundVersion (sym e) ∙ sym (c .before .sound-version .ensures) ∙ c .if2 .left), tt)
+    let e = c .before .before .version-of .ensures in (
+      admit-unsound (groupOf (a .s)) (a .w) (sym (c .before .before .before .before .spare-free .ensures)
+          ∙ c .before .before .before .if1 .taken) (ap soundVersion (sym e) ∙ sym (c .before .sound-version .ensures) ∙ c .if2 .left),
+      tt,
+    )
 
 returns-3 : tie.Need-returns-3
 returns-3 c =

@@ -27,7 +27,8 @@ returns : tie.Need-returns Inv-loop μ-loop
 returns c =
     let at = c .before .before .before in
     let a = at .before .before .args in
-    ended-bad (a .t .now) (at .loop .i) (c .before .before .loop-test .taken) (a .used) (sym (c .before .free .ensures) ∙ not-true (c .before .free .result) (c .if1 .taken)) ∙ at .loop .inv
+    ended-bad (a .t .now) (at .loop .i) (c .before .before .loop-test .taken) (a .used)
+    (sym (c .before .free .ensures) ∙ not-true (c .before .free .result) (c .if1 .taken)) ∙ at .loop .inv
 
 add-i : tie.Need-add-i Inv-loop μ-loop
 add-i c = omega arith
@@ -39,7 +40,8 @@ loop-again : tie.Need-loop-again Inv-loop μ-loop
 loop-again c =
     let at = c .before .before .before in
     let a = at .before .before .args in
-    ended-next (a .t .now) (at .loop .i) (c .before .before .loop-test .taken) (a .used) (sym (c .before .free .ensures) ∙ not-false (c .before .free .result) (c .if1 .left)) ∙ at .loop .inv
+    ended-next (a .t .now) (at .loop .i) (c .before .before .loop-test .taken) (a .used)
+    (sym (c .before .free .ensures) ∙ not-false (c .before .free .result) (c .if1 .left)) ∙ at .loop .inv
 
 returns-2 : tie.Need-returns-2 Inv-loop μ-loop
 returns-2 c =

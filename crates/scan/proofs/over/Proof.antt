@@ -16,7 +16,8 @@ use Rattle.scan.proofs.over.Statement.{statement}
 use Rattle.scan.proofs.over.Tie as tie
 
 abbrev Inv-loop : tie.InvT-loop
-Inv-loop t n s₀ i₀ s i = (i ≤ n) × ((s .had < 8) × (scanRows (Open i (groupOf s)) (drop i (piecesOf t)) ≡ scanRows (Open 0 start) (piecesOf t)))
+Inv-loop t n s₀ i₀ s i =
+    (i ≤ n) × ((s .had < 8) × (scanRows (Open i (groupOf s)) (drop i (piecesOf t)) ≡ scanRows (Open 0 start) (piecesOf t)))
 
 abbrev μ-loop : tie.MeasureT-loop
 μ-loop t n s₀ i₀ s i = n - i
@@ -35,7 +36,8 @@ returns c =
     let at = c .before .before .before .before .before in
     let t = at .before .before .args .t .now in
     c .ended .ensures
-    ∙ open-ends t (at .loop .i) (c .before .before .before .before .loop-test .taken) (at .loop .i) (groupOf (at .loop .s)) (c .before .before .before .words .result) (c .before .before .before .words .ensures) (c .before .if1 .taken)
+    ∙ open-ends t (at .loop .i) (c .before .before .before .before .loop-test .taken) (at .loop .i) (groupOf (at .loop .s))
+    (c .before .before .before .words .result) (c .before .before .before .words .ensures) (c .before .if1 .taken)
     ∙ at .loop .inv .1 .1
 
 admit-requires : tie.Need-admit-requires Inv-loop μ-loop
@@ -51,7 +53,9 @@ returns-2 : tie.Need-returns-2 Inv-loop μ-loop
 returns-2 c =
     let at = c .before .before .before .before .before .before .before in
     let t = at .before .before .args .t .now in
-    open-bad t (at .loop .i) (c .before .before .before .before .before .before .loop-test .taken) (at .loop .i) (groupOf (at .loop .s)) (c .before .before .before .before .before .words .result) (c .before .before .before .before .before .words .ensures) (c .before .before .before .if1 .left) (sym (c .before .before .admit .ensures .0) ∙ ap joinedBy (c .enum-told .given .1))
+    open-bad t (at .loop .i) (c .before .before .before .before .before .before .loop-test .taken) (at .loop .i) (groupOf (at .loop .s))
+    (c .before .before .before .before .before .words .result) (c .before .before .before .before .before .words .ensures)
+    (c .before .before .before .if1 .left) (sym (c .before .before .admit .ensures .0) ∙ ap joinedBy (c .enum-told .given .1))
     ∙ at .loop .inv .1 .1
 
 add-i : tie.Need-add-i Inv-loop μ-loop
@@ -67,7 +71,11 @@ loop-again c =
       omega arith,
       (
         subst Few (c .before .j .given .1) (c .before .before .before .admit .ensures .1),
-        open-next t (at .loop .i) (c .before .before .before .before .before .before .before .loop-test .taken) (at .loop .i) (groupOf (at .loop .s)) (c .before .before .before .before .before .before .words .result) (c .before .before .before .before .before .before .words .ensures) (groupOf (c .before .j .given .0 .0)) (c .before .before .before .before .if1 .left) (sym (c .before .before .before .admit .ensures .0) ∙ ap joinedBy (c .before .j .given .1))
+        open-next t (at .loop .i) (c .before .before .before .before .before .before .before .loop-test .taken) (at .loop .i)
+            (groupOf (at .loop .s)) (c .before .before .before .before .before .before .words .result)
+            (c .before .before .before .before .before .before .words .ensures) (groupOf (c .before .j .given .0 .0))
+            (c .before .before .before .before .if1 .left) (sym (c .before .before .before .admit .ensures .0)
+            ∙ ap joinedBy (c .before .j .given .1))
             ∙ at .loop .inv .1 .1,
       ),
     )
@@ -79,7 +87,8 @@ returns-3 : tie.Need-returns-3 Inv-loop μ-loop
 returns-3 c =
     let at = c .before .before in
     ap (λ (g : Group). Open (at .loop .i) g) (c .group-of .ensures)
-    ∙ sym (scan-done (at .before .before .args .t .now) (at .loop .i) (Open (at .loop .i) (groupOf (at .loop .s))) (c .before .loop-test .left)) ∙ at .loop .inv .1 .1
+    ∙ sym (scan-done (at .before .before .args .t .now) (at .loop .i) (Open (at .loop .i) (groupOf (at .loop .s)))
+    (c .before .loop-test .left)) ∙ at .loop .inv .1 .1
 
 pub over-spec : {M : Type 1} → statement M
 over-spec =

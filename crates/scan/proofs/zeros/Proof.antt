@@ -36,7 +36,18 @@ u64-at-requires-10 c κs = search needs
 
 returns : tie.Need-returns
 unfolding isBlank wordsIn
-returns c = rw (c .before .before .before .before .before .before .before .before .before .u64-at .ensures, c .before .before .before .before .before .before .before .before .u64-at2 .ensures, c .before .before .before .before .before .before .before .u64-at3 .ensures, c .before .before .before .before .before .before .u64-at4 .ensures, c .before .before .before .before .before .u64-at5 .ensures, c .before .before .before .before .u64-at6 .ensures, c .before .before .before .u64-at7 .ensures, c .before .before .u64-at8 .ensures, c .before .u64-at9 .ensures, c .u64-at10 .ensures)
+returns c = rw (
+  c .before .before .before .before .before .before .before .before .before .u64-at .ensures,
+  c .before .before .before .before .before .before .before .before .u64-at2 .ensures,
+  c .before .before .before .before .before .before .before .u64-at3 .ensures,
+  c .before .before .before .before .before .before .u64-at4 .ensures,
+  c .before .before .before .before .before .u64-at5 .ensures,
+  c .before .before .before .before .u64-at6 .ensures,
+  c .before .before .before .u64-at7 .ensures,
+  c .before .before .u64-at8 .ensures,
+  c .before .u64-at9 .ensures,
+  c .u64-at10 .ensures,
+)
 
 pub zeros-spec : {M : Type 1} → statement M
 zeros-spec =

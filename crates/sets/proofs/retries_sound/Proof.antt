@@ -6,7 +6,8 @@ use Rattle.sets.proofs.retries_sound.Statement.{statement}
 use Rattle.sets.proofs.retries_sound.Tie as tie
 
 returns : tie.Need-returns
-returns c = sym (retries-zero (c .before .before .before .before .before .before .args .c) (c .before .before .before .before .if1 .taken) (c .before .before .if2 .taken) (c .if3 .taken))
+returns c = sym (retries-zero (c .before .before .before .before .before .before .args .c) (c .before .before .before .before .if1 .taken)
+    (c .before .before .if2 .taken) (c .if3 .taken))
 
 used-fit-requires : tie.Need-used-fit-requires
 used-fit-requires c κs = search needs

@@ -18,7 +18,12 @@ sets-apart-requires c κs = search needs
 
 returns : tie.Need-returns
 unfolding setsFit
-returns c = rw (c .before .before .before .is-set .ensures, c .before .before .is-set2 .ensures, c .before .is-set3 .ensures, c .sets-apart .ensures)
+returns c = rw (
+  c .before .before .before .is-set .ensures,
+  c .before .before .is-set2 .ensures,
+  c .before .is-set3 .ensures,
+  c .sets-apart .ensures,
+)
 
 pub sets-fit-spec : {M : Type 1} → statement M
 sets-fit-spec =

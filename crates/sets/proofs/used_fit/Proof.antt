@@ -18,7 +18,8 @@ all-wait-requires c κs = search needs
 
 returns-2 : tie.Need-returns-2
 unfolding retriesSound
-returns-2 c = rw (sym (c .before .before .retries-in-range .ensures) ∙ not-false (c .before .before .retries-in-range .result) (c .before .if1 .left)) (c .all-wait .ensures)
+returns-2 c = rw (sym (c .before .before .retries-in-range .ensures)
+    ∙ not-false (c .before .before .retries-in-range .result) (c .before .if1 .left)) (c .all-wait .ensures)
 
 pub used-fit-spec : {M : Type 1} → statement M
 used-fit-spec = tie.close (tie.spec retries-in-range-requires returns all-wait-requires returns-2)

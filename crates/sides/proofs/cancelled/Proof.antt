@@ -15,7 +15,8 @@ turned-requires c κs = search needs
 
 returns : tie.Need-returns
 unfolding cancelled
-returns c = rw (c .before .before .if1 .taken, ← c .before .standing-of .ensures .0, ← add-one (c .before .standing-of .result)) (c .turned .ensures)
+returns c = rw (c .before .before .if1 .taken, ← c .before .standing-of .ensures .0, ← add-one (c .before .standing-of .result))
+    (c .turned .ensures)
 
 turned-requires-2 : tie.Need-turned-requires-2
 turned-requires-2 c κs = search needs

@@ -22,14 +22,23 @@ marks-fit-requires c κs =
 
 returns-2 : tie.Need-returns-2
 unfolding shapeFits
-returns-2 c = rw (sym (c .before .before .before .outline-fits .ensures) ∙ not-false (c .before .before .before .outline-fits .result) (c .before .before .if1 .left), sym (c .before .marks-fit .ensures) ∙ not-true (c .before .marks-fit .result) (c .if2 .taken))
+returns-2 c = rw (
+  sym (c .before .before .before .outline-fits .ensures) ∙ not-false (c .before .before .before .outline-fits .result)
+      (c .before .before .if1 .left),
+  sym (c .before .marks-fit .ensures) ∙ not-true (c .before .marks-fit .result) (c .if2 .taken),
+)
 
 sides-fit-requires : tie.Need-sides-fit-requires
 sides-fit-requires c κs = search needs
 
 returns-3 : tie.Need-returns-3
 unfolding shapeFits
-returns-3 c = rw (sym (c .before .before .before .before .outline-fits .ensures) ∙ not-false (c .before .before .before .before .outline-fits .result) (c .before .before .before .if1 .left), sym (c .before .before .marks-fit .ensures) ∙ not-false (c .before .before .marks-fit .result) (c .before .if2 .left)) (c .sides-fit .ensures)
+returns-3 c = rw (
+  sym (c .before .before .before .before .outline-fits .ensures)
+      ∙ not-false (c .before .before .before .before .outline-fits .result) (c .before .before .before .if1 .left),
+  sym (c .before .before .marks-fit .ensures) ∙ not-false (c .before .before .marks-fit .result) (c .before .if2 .left),
+)
+    (c .sides-fit .ensures)
 
 pub shape-fits-spec : {M : Type 1} → statement M
 shape-fits-spec =

@@ -13,7 +13,8 @@ use Rattle.soundbooks.proofs.apart.Statement.{statement}
 use Rattle.soundbooks.proofs.apart.Tie as tie
 
 abbrev Inv-loop : tie.InvT-loop
-Inv-loop books one other i k₀ k = apartFrom one other (restOf (splitPlace books) splitPlaces i) ≡ apartFrom one other (restOf (splitPlace books) splitPlaces k)
+Inv-loop books one other i k₀ k = apartFrom one other (restOf (splitPlace books) splitPlaces i) ≡ apartFrom one other
+    (restOf (splitPlace books) splitPlaces k)
 
 abbrev μ-loop : tie.MeasureT-loop
 μ-loop books one other i k₀ k = splitPlaces - k
@@ -48,8 +49,10 @@ returns c =
     let a = d .before .before .before .before .args in
     let l = d .before .before .loop in
     let bs = a .books .now in
-    let h = halves bs splitsAt (l .k) (d .u32-at .result) (c .before .u32-at2 .result) (λ j. d .before .before .before .shared-slice-known .given j .fits) (d .u32-at .ensures) (c .before .u32-at2 .ensures) in
-    sym (l .inv ∙ apart-end (a .one) (a .other) _ (used-none (splitPlace bs) splitPlaces (l .k) (splitPlace bs (l .k)) refl (halves-free bs splitsAt (l .k) _ _ h (c .if1 .taken))))
+    let h = halves bs splitsAt (l .k) (d .u32-at .result) (c .before .u32-at2 .result)
+    (λ j. d .before .before .before .shared-slice-known .given j .fits) (d .u32-at .ensures) (c .before .u32-at2 .ensures) in
+    sym (l .inv ∙ apart-end (a .one) (a .other) _
+    (used-none (splitPlace bs) splitPlaces (l .k) (splitPlace bs (l .k)) refl (halves-free bs splitsAt (l .k) _ _ h (c .if1 .taken))))
 
 has-code-requires : tie.Need-has-code-requires Inv-loop μ-loop
 has-code-requires c κs = search needs
@@ -60,8 +63,12 @@ returns-2 c =
     let a = d .before .before .before .before .args in
     let l = d .before .before .loop in
     let bs = a .books .now in
-    let h = halves bs splitsAt (l .k) (d .u32-at .result) (c .before .before .before .u32-at2 .result) (λ j. d .before .before .before .shared-slice-known .given j .fits) (d .u32-at .ensures) (c .before .before .before .u32-at2 .ensures) in
-    sym (l .inv ∙ apart-one (splitPlace bs) splitPlaces (l .k) (splitPlace bs (l .k)) (a .one) (a .other) (d .before .loop-test .taken) refl (halves-used bs splitsAt (l .k) _ _ h (c .before .before .if1 .left)) _ _ (halves-code bs splitsAt (l .k) _ _ h _ (a .one) (c .before .has-code .ensures)) refl (c .if2 .taken))
+    let h = halves bs splitsAt (l .k) (d .u32-at .result) (c .before .before .before .u32-at2 .result)
+    (λ j. d .before .before .before .shared-slice-known .given j .fits) (d .u32-at .ensures)
+    (c .before .before .before .u32-at2 .ensures) in
+    sym (l .inv ∙ apart-one (splitPlace bs) splitPlaces (l .k) (splitPlace bs (l .k)) (a .one) (a .other) (d .before .loop-test .taken) refl
+    (halves-used bs splitsAt (l .k) _ _ h (c .before .before .if1 .left)) _ _
+    (halves-code bs splitsAt (l .k) _ _ h _ (a .one) (c .before .has-code .ensures)) refl (c .if2 .taken))
 
 has-code-requires-2 : tie.Need-has-code-requires-2 Inv-loop μ-loop
 has-code-requires-2 c κs = search needs
@@ -72,8 +79,13 @@ returns-3 c =
     let a = d .before .before .before .before .args in
     let l = d .before .before .loop in
     let bs = a .books .now in
-    let h = halves bs splitsAt (l .k) (d .u32-at .result) (c .before .before .before .before .before .u32-at2 .result) (λ j. d .before .before .before .shared-slice-known .given j .fits) (d .u32-at .ensures) (c .before .before .before .before .before .u32-at2 .ensures) in
-    sym (l .inv ∙ apart-other (splitPlace bs) splitPlaces (l .k) (splitPlace bs (l .k)) (a .one) (a .other) (d .before .loop-test .taken) refl (halves-used bs splitsAt (l .k) _ _ h (c .before .before .before .before .if1 .left)) _ _ (halves-code bs splitsAt (l .k) _ _ h _ (a .one) (c .before .before .before .has-code .ensures)) (halves-code bs splitsAt (l .k) _ _ h _ (a .other) (c .before .has-code2 .ensures)) (c .before .before .if2 .left) (c .if3 .taken))
+    let h = halves bs splitsAt (l .k) (d .u32-at .result) (c .before .before .before .before .before .u32-at2 .result)
+    (λ j. d .before .before .before .shared-slice-known .given j .fits) (d .u32-at .ensures)
+    (c .before .before .before .before .before .u32-at2 .ensures) in
+    sym (l .inv ∙ apart-other (splitPlace bs) splitPlaces (l .k) (splitPlace bs (l .k)) (a .one) (a .other) (d .before .loop-test .taken)
+    refl (halves-used bs splitsAt (l .k) _ _ h (c .before .before .before .before .if1 .left)) _ _
+    (halves-code bs splitsAt (l .k) _ _ h _ (a .one) (c .before .before .before .has-code .ensures))
+    (halves-code bs splitsAt (l .k) _ _ h _ (a .other) (c .before .has-code2 .ensures)) (c .before .before .if2 .left) (c .if3 .taken))
 
 add-k : tie.Need-add-k Inv-loop μ-loop
 add-k c = search needs
@@ -87,8 +99,13 @@ loop-again c =
     let a = d .before .before .before .before .args in
     let l = d .before .before .loop in
     let bs = a .books .now in
-    let h = halves bs splitsAt (l .k) (d .u32-at .result) (c .before .before .before .before .before .u32-at2 .result) (λ j. d .before .before .before .shared-slice-known .given j .fits) (d .u32-at .ensures) (c .before .before .before .before .before .u32-at2 .ensures) in
-    l .inv ∙ apart-next (splitPlace bs) splitPlaces (l .k) (splitPlace bs (l .k)) (a .one) (a .other) (d .before .loop-test .taken) refl (halves-used bs splitsAt (l .k) _ _ h (c .before .before .before .before .if1 .left)) _ _ (halves-code bs splitsAt (l .k) _ _ h _ (a .one) (c .before .before .before .has-code .ensures)) (halves-code bs splitsAt (l .k) _ _ h _ (a .other) (c .before .has-code2 .ensures)) (c .before .before .if2 .left) (c .if3 .left)
+    let h = halves bs splitsAt (l .k) (d .u32-at .result) (c .before .before .before .before .before .u32-at2 .result)
+    (λ j. d .before .before .before .shared-slice-known .given j .fits) (d .u32-at .ensures)
+    (c .before .before .before .before .before .u32-at2 .ensures) in
+    l .inv ∙ apart-next (splitPlace bs) splitPlaces (l .k) (splitPlace bs (l .k)) (a .one) (a .other) (d .before .loop-test .taken) refl
+    (halves-used bs splitsAt (l .k) _ _ h (c .before .before .before .before .if1 .left)) _ _
+    (halves-code bs splitsAt (l .k) _ _ h _ (a .one) (c .before .before .before .has-code .ensures))
+    (halves-code bs splitsAt (l .k) _ _ h _ (a .other) (c .before .has-code2 .ensures)) (c .before .before .if2 .left) (c .if3 .left)
 
 returns-4 : tie.Need-returns-4 Inv-loop μ-loop
 returns-4 c =

@@ -66,7 +66,8 @@ returns-5 c =
     (sound-parts (a .marks) (a .books .now)
     ∙ rw (
       eq-eqb _ _ (c .before .before .before .before .before .before .before .before .if1 .left),
-      sym (c .before .before .before .before .before .before .before .head-free .ensures) ∙ not-false _ (c .before .before .before .before .before .before .if2 .left),
+      sym (c .before .before .before .before .before .before .before .head-free .ensures)
+          ∙ not-false _ (c .before .before .before .before .before .before .if2 .left),
       sym (c .before .before .before .before .before .sound .ensures) ∙ not-false _ (c .before .before .before .before .if3 .left),
       sym (c .before .before .before .sound-rows .ensures) ∙ not-false _ (c .before .before .if4 .left),
       sym (c .before .sound-rows2 .ensures) ∙ not-true _ (c .if5 .taken),
@@ -82,8 +83,10 @@ returns-6 c =
     (sound-parts (a .marks) (a .books .now)
     ∙ rw (
       eq-eqb _ _ (c .before .before .before .before .before .before .before .before .before .if1 .left),
-      sym (c .before .before .before .before .before .before .before .before .head-free .ensures) ∙ not-false _ (c .before .before .before .before .before .before .before .if2 .left),
-      sym (c .before .before .before .before .before .before .sound .ensures) ∙ not-false _ (c .before .before .before .before .before .if3 .left),
+      sym (c .before .before .before .before .before .before .before .before .head-free .ensures)
+          ∙ not-false _ (c .before .before .before .before .before .before .before .if2 .left),
+      sym (c .before .before .before .before .before .before .sound .ensures)
+          ∙ not-false _ (c .before .before .before .before .before .if3 .left),
       sym (c .before .before .before .before .sound-rows .ensures) ∙ not-false _ (c .before .before .before .if4 .left),
       sym (c .before .before .sound-rows2 .ensures) ∙ not-false _ (c .before .if5 .left),
     ) (sym (c .sound-splits .ensures)))

@@ -15,7 +15,9 @@ use Rattle.soundbooks.proofs.sound_rows.Tie as tie
 
 abbrev Inv-loop : tie.InvT-loop
 Inv-loop filters marks books at last₀ w₀ i₀ last w i =
-    (w ≡ placeOf 4 at books i) × (scan (rowTest filters marks) (placeOf 4 at books) rowPlaces 0 0 ≡ scan (rowTest filters marks) (placeOf 4 at books) (rowPlaces - i) i last)
+    (w ≡ placeOf 4 at books i)
+    × (scan (rowTest filters marks) (placeOf 4 at books) rowPlaces 0 0 ≡ scan (rowTest filters marks) (placeOf 4 at books)
+    (rowPlaces - i) i last)
 
 abbrev μ-loop : tie.MeasureT-loop
 μ-loop filters marks books at last₀ w₀ i₀ last w i = rowPlaces - i
@@ -39,7 +41,9 @@ returns : tie.Need-returns Inv-loop μ-loop
 returns c =
     let l = c .before .before .before .loop in
     let a = c .before .before .before .before .before .before .args in
-    c .free-rows .ensures ∙ sym (l .inv .1 ∙ scan-free (rowTest (a .filters) (a .marks)) (placeOf 4 (a .at) (a .books .now)) rowPlaces (l .i) (l .last) (l .w) (c .before .before .loop-test .taken) (l .inv .0) (c .before .if1 .taken))
+    c .free-rows .ensures ∙ sym
+    (l .inv .1 ∙ scan-free (rowTest (a .filters) (a .marks)) (placeOf 4 (a .at) (a .books .now)) rowPlaces (l .i) (l .last) (l .w)
+    (c .before .before .loop-test .taken) (l .inv .0) (c .before .if1 .taken))
 
 good-row-requires : tie.Need-good-row-requires Inv-loop μ-loop
 good-row-requires c κs = search needs
@@ -48,7 +52,9 @@ returns-2 : tie.Need-returns-2 Inv-loop μ-loop
 returns-2 c =
     let l = c .before .before .before .before .loop in
     let a = c .before .before .before .before .before .before .before .args in
-    sym (l .inv .1 ∙ scan-bad (rowTest (a .filters) (a .marks)) (placeOf 4 (a .at) (a .books .now)) rowPlaces (l .i) (l .last) (l .w) (c .before .before .before .loop-test .taken) (l .inv .0) _ (c .before .before .if1 .left) (c .before .good-row .ensures) (not-true _ (c .if2 .taken)))
+    sym (l .inv .1 ∙ scan-bad (rowTest (a .filters) (a .marks)) (placeOf 4 (a .at) (a .books .now)) rowPlaces (l .i) (l .last) (l .w)
+    (c .before .before .before .loop-test .taken) (l .inv .0) _ (c .before .before .if1 .left) (c .before .good-row .ensures)
+    (not-true _ (c .if2 .taken)))
 
 add-i : tie.Need-add-i Inv-loop μ-loop
 add-i c = search needs
@@ -68,14 +74,19 @@ loop-less c = search needs
 loop-again : tie.Need-loop-again Inv-loop μ-loop
 loop-again c =
     let l = c .before .before .before .before .before .loop in
-    let a = c .before .before .before .before .before .before .before .before .args in
-    (c .u32-at2 .ensures, l .inv .1 ∙ scan-next (rowTest (a .filters) (a .marks)) (placeOf 4 (a .at) (a .books .now)) rowPlaces (l .i) (l .last) (l .w) (c .before .before .before .before .loop-test .taken) (l .inv .0) _ (c .before .before .before .if1 .left) (c .before .before .good-row .ensures) (not-false _ (c .before .if2 .left)))
+    let a = c .before .before .before .before .before .before .before .before .args in (
+      c .u32-at2 .ensures,
+      l .inv .1 ∙ scan-next (rowTest (a .filters) (a .marks)) (placeOf 4 (a .at) (a .books .now)) rowPlaces (l .i)
+          (l .last) (l .w) (c .before .before .before .before .loop-test .taken) (l .inv .0) _ (c .before .before .before .if1 .left)
+          (c .before .before .good-row .ensures) (not-false _ (c .before .if2 .left)),
+    )
 
 returns-3 : tie.Need-returns-3 Inv-loop μ-loop
 returns-3 c =
     let l = c .before .loop in
     let a = c .before .before .before .before .args in
-    sym (l .inv .1 ∙ scan-end (rowTest (a .filters) (a .marks)) (placeOf 4 (a .at) (a .books .now)) rowPlaces (l .i) (l .last) (c .loop-test .left))
+    sym (l .inv .1 ∙ scan-end (rowTest (a .filters) (a .marks)) (placeOf 4 (a .at) (a .books .now)) rowPlaces (l .i)
+    (l .last) (c .loop-test .left))
 
 pub sound-rows-spec : {M : Type 1} → statement M
 sound-rows-spec =

@@ -41,7 +41,8 @@ returns c =
     let d = c .before .before in
     let l = d .before .before .loop in
     c .free .ensures
-    ∙ sym (l .inv ∙ scan-free splitTest (splitPlace (d .before .before .before .before .args .books .now)) splitPlaces (l .i) 0 _ (d .before .loop-test .taken) (d .u64-at .ensures) (c .before .if1 .taken))
+    ∙ sym (l .inv ∙ scan-free splitTest (splitPlace (d .before .before .before .before .args .books .now)) splitPlaces (l .i) 0 _
+    (d .before .loop-test .taken) (d .u64-at .ensures) (c .before .if1 .taken))
 
 good-split-requires : tie.Need-good-split-requires Inv-loop μ-loop
 good-split-requires c κs = search needs
@@ -50,7 +51,9 @@ returns-2 : tie.Need-returns-2 Inv-loop μ-loop
 returns-2 c =
     let d = c .before .before .before in
     let l = d .before .before .loop in
-    sym (l .inv ∙ scan-bad splitTest (splitPlace (d .before .before .before .before .args .books .now)) splitPlaces (l .i) 0 _ (d .before .loop-test .taken) (d .u64-at .ensures) _ (c .before .before .if1 .left) (c .before .good-split .ensures) (not-true _ (c .if2 .taken)))
+    sym (l .inv ∙ scan-bad splitTest (splitPlace (d .before .before .before .before .args .books .now)) splitPlaces (l .i) 0 _
+    (d .before .loop-test .taken) (d .u64-at .ensures) _ (c .before .before .if1 .left) (c .before .good-split .ensures)
+    (not-true _ (c .if2 .taken)))
 
 loop-less : tie.Need-loop-less Inv-loop μ-loop
 loop-less c = search needs
@@ -59,7 +62,8 @@ loop-again : tie.Need-loop-again Inv-loop μ-loop
 loop-again c =
     let d = c .before .before .before in
     let l = d .before .before .loop in
-    l .inv ∙ split-next (d .before .before .before .before .args .books .now) (l .i) _ _ (d .before .loop-test .taken) (d .u64-at .ensures) (c .before .before .if1 .left) (c .before .good-split .ensures) (not-false _ (c .if2 .left))
+    l .inv ∙ split-next (d .before .before .before .before .args .books .now) (l .i) _ _ (d .before .loop-test .taken) (d .u64-at .ensures)
+    (c .before .before .if1 .left) (c .before .good-split .ensures) (not-false _ (c .if2 .left))
 
 returns-3 : tie.Need-returns-3 Inv-loop μ-loop
 returns-3 c =

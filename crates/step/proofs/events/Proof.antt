@@ -1,7 +1,7 @@
 use borrow.Author.Needs.{needs}
 -- The measure is how many places are left; table and tray keep their lengths.
 -- Assumes nothing.
-use mathlib.Core.Path.{_≡_, refl, _∙_}
+use mathlib.Core.Path.{_≡_, refl}
 use Prim.Native.Nat.{_-_}
 use lib.ListN.{length}
 use native.Mathlib.Omega.{arith}

@@ -8,7 +8,10 @@ bit-requires c κs = search needs
 
 add-result : tie.Need-add-result
 add-result c =
-    record { fits = rw (c .bit .ensures) (out-fits 64 (c .before .args .s) (c .before .args .p) (c .before .pre .0) (c .before .fits .s .fits) (c .before .pre .1)) }
+    record {
+      fits = rw (c .bit .ensures)
+          (out-fits 64 (c .before .args .s) (c .before .args .p) (c .before .pre .0) (c .before .fits .s .fits) (c .before .pre .1));
+    }
 
 returns : tie.Need-returns
 returns c = search needs

@@ -29,7 +29,12 @@ returns-2 : tie.Need-returns-2
 unfolding tableFault
 returns-2 c =
     let t = c .before .before .before .before .args .t .now in
-    rw (c .whole2 .ensures, eq-eqb (length t % ROW) 0 (omega (arith, c .before .before .if1 .left)), lt-leb (length t) (mostRows * ROW) (c .before .if2 .taken))
+    rw (
+      c .whole2 .ensures,
+      eq-eqb (length t % ROW) 0 (omega (arith, c .before .before .if1 .left)),
+      lt-leb (length t) (mostRows * ROW)
+          (c .before .if2 .taken),
+    )
 
 over-requires : tie.Need-over-requires
 over-requires c κs = search needs
@@ -38,7 +43,12 @@ returns-3 : tie.Need-returns-3
 unfolding tableFault
 returns-3 c =
     let t = c .before .before .before .before .args .t .now in
-    rw (c .over .ensures, eq-eqb (length t % ROW) 0 (omega (arith, c .before .before .if1 .left)), le-leb (length t) (mostRows * ROW) (c .before .if2 .left))
+    rw (
+      c .over .ensures,
+      eq-eqb (length t % ROW) 0 (omega (arith, c .before .before .if1 .left)),
+      le-leb (length t) (mostRows * ROW)
+          (c .before .if2 .left),
+    )
 
 pub fault-spec : {M : Type 1} → statement M
 fault-spec =

@@ -50,8 +50,18 @@ returns-2 c =
     let v = c .before .before .before .before .before in
     let b = v .before .before in
     let a = b .before .before .before .args in
-    let used : freeAt (a .t .now) (a .i) ≡ false = ap isBlank (sym (b .before .words .ensures)) ∙ (sym (b .blank .ensures) ∙ v .before .if1 .left) in
-    rw (used, c .form .ensures, c .before .ranges .ensures, c .before .before .sides .ensures, c .before .before .before .cast .ensures, c .before .before .before .before .shared .ensures, v .version-of .ensures, b .before .words .ensures)
+    let used : freeAt (a .t .now) (a .i) ≡ false = ap isBlank (sym (b .before .words .ensures))
+    ∙ (sym (b .blank .ensures) ∙ v .before .if1 .left) in
+    rw (
+      used,
+      c .form .ensures,
+      c .before .ranges .ensures,
+      c .before .before .sides .ensures,
+      c .before .before .before .cast .ensures,
+      c .before .before .before .before .shared .ensures,
+      v .version-of .ensures,
+      b .before .words .ensures,
+    )
 
 pub found-spec : {M : Type 1} → statement M
 found-spec =

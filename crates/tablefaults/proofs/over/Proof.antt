@@ -31,7 +31,8 @@ returns c =
     let l = c .before .before .before .before in
     let t = l .before .before .args .t .now in
     let f = c .before .before .found in
-    sym (l .loop .inv .1 ∙ fault-here (rowFound t) (length t / ROW) (l .loop .i) (c .before .before .before .loop-test .taken) (f .result) (f .ensures) (c .if1 .taken))
+    sym (l .loop .inv .1 ∙ fault-here (rowFound t) (length t / ROW) (l .loop .i) (c .before .before .before .loop-test .taken) (f .result)
+    (f .ensures) (c .if1 .taken))
 
 add-i : tie.Need-add-i Inv-loop μ-loop
 add-i c = omega arith
@@ -43,8 +44,11 @@ loop-again : tie.Need-loop-again Inv-loop μ-loop
 loop-again c =
     let l = c .before .before .before .before in
     let t = l .before .before .args .t .now in
-    let f = c .before .before .found in
-    (omega arith, l .loop .inv .1 ∙ fault-next (rowFound t) (length t / ROW) (l .loop .i) (c .before .before .before .loop-test .taken) (f .result) (f .ensures) (omega (arith, c .if1 .left)))
+    let f = c .before .before .found in (
+      omega arith,
+      l .loop .inv .1 ∙ fault-next (rowFound t) (length t / ROW) (l .loop .i) (c .before .before .before .loop-test .taken)
+          (f .result) (f .ensures) (omega (arith, c .if1 .left)),
+    )
 
 whole-requires : tie.Need-whole-requires Inv-loop μ-loop
 whole-requires c κs = search needs

@@ -29,7 +29,8 @@ message-of-requires : tie.Need-message-of-requires
 message-of-requires c κs = search needs
 
 returns : tie.Need-returns
-returns c = c .message-of .ensures ∙ ap₂ (λ (x y : ℕ). messageOf x y (c .before .u64-at3 .result)) (c .before .before .before .u64-at .ensures) (c .before .before .u64-at2 .ensures) ∙ ap (messageOf _ _) (c .before .u64-at3 .ensures)
+returns c = c .message-of .ensures ∙ ap₂ (λ (x y : ℕ). messageOf x y (c .before .u64-at3 .result))
+    (c .before .before .before .u64-at .ensures) (c .before .before .u64-at2 .ensures) ∙ ap (messageOf _ _) (c .before .u64-at3 .ensures)
 
 pub message-at-spec : {M : Type 1} → statement M
 message-at-spec =

@@ -11,7 +11,8 @@ use Rattle.systems.specs.Set.{count}
 use Rattle.verdict.specs.Verdict.{toLocals}
 use Rattle.tray.specs.Tray.{putAll}
 use Rattle.tray.proofs.Laws.{put-length}
-use Rattle.tray.proofs.Downloads.{above, members-above, count-out, count-in, length-locals, room, small-local, put-step, skip-step, put-end}
+use Rattle.tray.proofs.Downloads.{above, members-above, count-out, count-in, length-locals, room, small-local, put-step, skip-step}
+use Rattle.tray.proofs.Downloads.{put-end}
 use Rattle.tray.proofs.put_downloads.Statement.{statement}
 use Rattle.tray.proofs.put_downloads.Tie as tie
 
@@ -54,16 +55,24 @@ put-message-requires : tie.Need-put-message-requires Inv-providers μ-providers
 put-message-requires c κs =
     let s = c .before .before .before .before .before .before .before in
     let l = c .before .before .before .before .before .providers in (
-      room (s .args .tray .now) (l .tray) (s .args .m) (s .args .from) (l .at) (l .provider) (s .args .set) (c .before .before .before .before .providers-test .taken)
+      room (s .args .tray .now) (l .tray) (s .args .m) (s .args .from) (l .at) (l .provider) (s .args .set)
+          (c .before .before .before .before .providers-test .taken)
           (sym (c .before .before .before .has .ensures) ∙ not-false _ (c .before .before .if1 .left)) (l .inv .2) (s .pre .0) (l .inv .1),
-      small-local (s .args .m) _ (s .args .set) (l .provider) (s .pre .1) (c .before .before .before .before .providers-test .taken) (sym (c .before .before .before .has .ensures) ∙ not-false _ (c .before .before .if1 .left)) (c .to-local .ensures),
+      small-local (s .args .m) _ (s .args .set) (l .provider) (s .pre .1) (c .before .before .before .before .providers-test .taken)
+          (sym (c .before .before .before .has .ensures) ∙ not-false _ (c .before .before .if1 .left)) (c .to-local .ensures),
     )
 
 add-at : tie.Need-add-at Inv-providers μ-providers
 add-at c =
     let s = c .before .before .before .before .before .before .before .before .before .before in
     let l = c .before .before .before .before .before .before .before .before .providers in
-    omega (arith, room (s .args .tray .now) (l .tray) (s .args .m) (s .args .from) (l .at) (l .provider) (s .args .set) (c .before .before .before .before .before .before .before .providers-test .taken) (sym (c .before .before .before .before .before .before .has .ensures) ∙ not-false _ (c .before .before .before .before .before .if1 .left)) (l .inv .2) (s .pre .0) (l .inv .1))
+    omega (
+      arith,
+      room (s .args .tray .now) (l .tray) (s .args .m) (s .args .from) (l .at) (l .provider) (s .args .set)
+          (c .before .before .before .before .before .before .before .providers-test .taken)
+          (sym (c .before .before .before .before .before .before .has .ensures)
+          ∙ not-false _ (c .before .before .before .before .before .if1 .left)) (l .inv .2) (s .pre .0) (l .inv .1),
+    )
 
 providers-less-2 : tie.Need-providers-less-2 Inv-providers μ-providers
 providers-less-2 c = search needs
@@ -72,13 +81,18 @@ providers-again-2 : tie.Need-providers-again-2 Inv-providers μ-providers
 providers-again-2 c =
     let s = c .before .before .before .before .before .before .before .before .before .before in
     let l = c .before .before .before .before .before .before .before .before .providers in
-    let in′ = sym (c .before .before .before .before .before .before .has .ensures) ∙ not-false _ (c .before .before .before .before .before .if1 .left) in (
+    let in′ = sym (c .before .before .before .before .before .before .has .ensures)
+    ∙ not-false _ (c .before .before .before .before .before .if1 .left) in (
       search needs,
       ap length (c .before .before .put-message .ensures)
-          ∙ put-length (l .tray) (l .at) _ (room (s .args .tray .now) (l .tray) (s .args .m) (s .args .from) (l .at) (l .provider) (s .args .set) (c .before .before .before .before .before .before .before .providers-test .taken) in′ (l .inv .2) (s .pre .0) (l .inv .1))
+          ∙ put-length (l .tray) (l .at) _
+          (room (s .args .tray .now) (l .tray) (s .args .m) (s .args .from) (l .at) (l .provider) (s .args .set)
+          (c .before .before .before .before .before .before .before .providers-test .taken) in′ (l .inv .2) (s .pre .0) (l .inv .1))
           ∙ l .inv .1,
       omega (arith, count-in (s .args .set) (l .provider) in′),
-      put-step (l .tray) _ (l .at) (l .provider) (s .args .m) _ (s .args .set) (c .before .before .before .before .before .before .before .providers-test .taken) in′ (c .before .before .before .to-local .ensures) (c .before .before .put-message .ensures) ∙ l .inv .3,
+      put-step (l .tray) _ (l .at) (l .provider) (s .args .m) _ (s .args .set)
+          (c .before .before .before .before .before .before .before .providers-test .taken) in′
+          (c .before .before .before .to-local .ensures) (c .before .before .put-message .ensures) ∙ l .inv .3,
     )
 
 sub-result : tie.Need-sub-result Inv-providers μ-providers
@@ -93,7 +107,8 @@ returns c =
     let l = c .before .providers in
     let e : l .provider ≡ 63 = omega arith in
     record {
-      tray = sym (put-end (l .tray) (l .at) (l .provider) (a .m) (a .set) (c .providers-test .left)) ∙ l .inv .3 ∙ ap (λ (ps : List ℕ). putAll (a .tray .now) (a .from) (toLocals (a .m) ps)) (sym (members-above (a .set)));
+      tray = sym (put-end (l .tray) (l .at) (l .provider) (a .m) (a .set) (c .providers-test .left)) ∙ l .inv .3
+          ∙ ap (λ (ps : List ℕ). putAll (a .tray .now) (a .from) (toLocals (a .m) ps)) (sym (members-above (a .set)));
       said = omega (arith, ap (count (a .set)) e, length-locals (a .m) (a .set));
     }
 

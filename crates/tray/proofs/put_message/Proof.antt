@@ -35,7 +35,11 @@ same-length c = search needs
 returns : tie.Need-returns
 returns c =
     let s = c .before .before .before .before .before .before .before .before .before .before .before .before .before .before .before in
-    message-put (s .args .tray .now) _ _ _ (s .args .place) _ _ (s .args .m) (s .pre .0) (c .before .before .before .before .before .before .before .before .before .before .before .before .before .head-of .ensures) (c .before .before .before .before .before .before .before .before .before .before .before .before .tail-of .ensures) (c .before .before .before .before .before .before .before .before .before .before .put-u64 .ensures) (c .before .before .before .before .before .before .put-u642 .ensures) (c .before .before .put-u643 .ensures)
+    message-put (s .args .tray .now) _ _ _ (s .args .place) _ _ (s .args .m) (s .pre .0)
+    (c .before .before .before .before .before .before .before .before .before .before .before .before .before .head-of .ensures)
+    (c .before .before .before .before .before .before .before .before .before .before .before .before .tail-of .ensures)
+    (c .before .before .before .before .before .before .before .before .before .before .put-u64 .ensures)
+    (c .before .before .before .before .before .before .put-u642 .ensures) (c .before .before .put-u643 .ensures)
 
 pub put-message-spec : {M : Type 1} → statement M
 put-message-spec =

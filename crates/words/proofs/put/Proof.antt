@@ -20,7 +20,8 @@ same-length c = search needs
 returns : tie.Need-returns
 returns c =
     let st = c .before .before .before .before .before .before .before .before .before in
-    c .before .before .put-five2 .ensures ∙ ap (λ (l : List ℕ). stored l 40 (lastOf (st .args .w))) (c .before .before .before .before .before .before .put-five .ensures)
+    c .before .before .put-five2 .ensures
+    ∙ ap (λ (l : List ℕ). stored l 40 (lastOf (st .args .w))) (c .before .before .before .before .before .before .put-five .ensures)
     ∙ fill (st .args .b .now) (st .args .w) (st .pre)
 
 pub put-spec : {M : Type 1} → statement M

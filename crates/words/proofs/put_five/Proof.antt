@@ -35,7 +35,12 @@ same-length : tie.Need-same-length
 same-length c = search needs
 
 returns : tie.Need-returns
-returns c = five _ _ _ _ _ _ _ _ _ _ _ _ (c .before .before .before .before .before .before .before .before .before .before .before .before .before .before .before .before .before .before .put-u64 .ensures) (c .before .before .before .before .before .before .before .before .before .before .before .before .before .before .put-u642 .ensures) (c .before .before .before .before .before .before .before .before .before .before .put-u643 .ensures) (c .before .before .before .before .before .before .put-u644 .ensures) (c .before .before .put-u645 .ensures)
+returns c = five _ _ _ _ _ _ _ _ _ _ _ _
+    (c .before .before .before .before .before .before .before .before .before .before .before .before .before .before .before .before
+    .before .before .put-u64 .ensures) (c .before .before .before .before .before .before .before .before .before .before .before
+    .before .before .before .put-u642 .ensures) (c .before .before .before .before .before .before .before .before .before
+    .before .put-u643 .ensures) (c .before .before .before .before .before .before .put-u644 .ensures)
+    (c .before .before .put-u645 .ensures)
 
 pub put-five-spec : {M : Type 1} → statement M
 put-five-spec =

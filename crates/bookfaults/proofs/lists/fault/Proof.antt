@@ -5,12 +5,13 @@ use native.Mathlib.Omega.{arith}
 use borrow.Author.Needs.{needs}
 use Rattle.faults.specs.Faults.{firstFault}
 use Rattle.faults.proofs.Laws.{fault-here, fault-next, fault-end}
-use Rattle.bookfaults.specs.Clauses.{placeIn, placeFound, listFault, placesOf}
+use Rattle.bookfaults.specs.Clauses.{placeIn, placeFound, listFault}
 use Rattle.bookfaults.proofs.lists.fault.Statement.{statement}
 use Rattle.bookfaults.proofs.lists.fault.Tie as tie
 
 abbrev Inv-loop : tie.InvT-loop
-Inv-loop list n marks books i₀ i = (i ≤ n) × (listFault list marks books ≡ firstFault (placeFound list marks (placeIn list books)) (n - i) i)
+Inv-loop list n marks books i₀ i =
+    (i ≤ n) × (listFault list marks books ≡ firstFault (placeFound list marks (placeIn list books)) (n - i) i)
 
 abbrev μ-loop : tie.MeasureT-loop
 μ-loop list n marks books i₀ i = n - i
@@ -32,7 +33,8 @@ returns c =
     let l = c .before .before .before .before in
     let a = l .before .before .args in
     let f = c .before .before .found in
-    sym (l .loop .inv .1 ∙ fault-here (placeFound (a .list) (a .marks) (placeIn (a .list) (a .books .now))) (a .n) (l .loop .i) (c .before .before .before .loop-test .taken) (f .result) (f .ensures) (c .if1 .taken))
+    sym (l .loop .inv .1 ∙ fault-here (placeFound (a .list) (a .marks) (placeIn (a .list) (a .books .now))) (a .n) (l .loop .i)
+    (c .before .before .before .loop-test .taken) (f .result) (f .ensures) (c .if1 .taken))
 
 add-i : tie.Need-add-i Inv-loop μ-loop
 add-i c = omega arith
@@ -44,8 +46,11 @@ loop-again : tie.Need-loop-again Inv-loop μ-loop
 loop-again c =
     let l = c .before .before .before .before in
     let a = l .before .before .args in
-    let f = c .before .before .found in
-    (omega arith, l .loop .inv .1 ∙ fault-next (placeFound (a .list) (a .marks) (placeIn (a .list) (a .books .now))) (a .n) (l .loop .i) (c .before .before .before .loop-test .taken) (f .result) (f .ensures) (omega (arith, c .if1 .left)))
+    let f = c .before .before .found in (
+      omega arith,
+      l .loop .inv .1 ∙ fault-next (placeFound (a .list) (a .marks) (placeIn (a .list) (a .books .now))) (a .n) (l .loop .i)
+          (c .before .before .before .loop-test .taken) (f .result) (f .ensures) (omega (arith, c .if1 .left)),
+    )
 
 whole-requires : tie.Need-whole-requires Inv-loop μ-loop
 whole-requires c κs = search needs
@@ -54,7 +59,8 @@ returns-2 : tie.Need-returns-2 Inv-loop μ-loop
 returns-2 c =
     let l = c .before .before in
     let a = l .before .before .args in
-    c .whole .ensures ∙ sym (l .loop .inv .1 ∙ fault-end (placeFound (a .list) (a .marks) (placeIn (a .list) (a .books .now))) (a .n) (l .loop .i) (c .before .loop-test .left))
+    c .whole .ensures ∙ sym (l .loop .inv .1 ∙ fault-end (placeFound (a .list) (a .marks) (placeIn (a .list) (a .books .now))) (a .n)
+    (l .loop .i) (c .before .loop-test .left))
 
 pub fault-spec : {M : Type 1} → statement M
 fault-spec =

@@ -1,8 +1,7 @@
 -- `lists::found` meets its contract. Assumes nothing.
 use Prim.Native.Nat.{ℕ}
-use mathlib.Core.Path.{_≡_, sym, ap, _∙_}
+use mathlib.Core.Path.{sym, ap, _∙_}
 use native.Mathlib.Omega.{arith}
-use Rattle.books.specs.Packed.{splitPlace}
 use Rattle.bookfaults.specs.Clauses.{placeIn, metBy}
 use Rattle.bookfaults.proofs.Places.{pair-places, pair-place, found-free, found-code, found-filter, found-pair}
 use borrow.Author.Needs.{needs}
@@ -19,7 +18,8 @@ returns : tie.Need-returns
 returns c =
     let p = c .before .before in
     let a = p .before .before .args in
-    c .fine .ensures ∙ found-free (a .list) (a .marks) (placeIn (a .list) (a .books .now)) (a .i) _ 0 (p .place .ensures) (c .before .if1 .taken)
+    c .fine .ensures ∙ found-free (a .list) (a .marks) (placeIn (a .list) (a .books .now)) (a .i) _ 0 (p .place .ensures)
+    (c .before .if1 .taken)
 
 last-requires : tie.Need-last-requires
 last-requires c κs = search needs
@@ -32,7 +32,8 @@ returns-2 c =
     let l = c .before .before in
     let p = l .before .before in
     let a = p .before .before .args in
-    c .code .ensures ∙ found-code (a .list) (a .marks) (placeIn (a .list) (a .books .now)) (a .i) _ _ (p .place .ensures) (l .before .if1 .left) (l .last .ensures) (c .before .if2 .taken)
+    c .code .ensures ∙ found-code (a .list) (a .marks) (placeIn (a .list) (a .books .now)) (a .i) _ _ (p .place .ensures)
+    (l .before .if1 .left) (l .last .ensures) (c .before .if2 .taken)
 
 filter-requires : tie.Need-filter-requires
 filter-requires c κs = search needs
@@ -43,10 +44,12 @@ returns-3 c =
     let p = l .before .before in
     let a = p .before .before .args in
     c .filter .ensures
-    ∙ found-filter (a .list) (a .marks) (placeIn (a .list) (a .books .now)) (a .i) _ _ (p .place .ensures) (l .before .if1 .left) (l .last .ensures) (c .before .before .if2 .left) (c .before .if3 .taken)
+    ∙ found-filter (a .list) (a .marks) (placeIn (a .list) (a .books .now)) (a .i) _ _ (p .place .ensures) (l .before .if1 .left)
+    (l .last .ensures) (c .before .before .if2 .left) (c .before .if3 .taken)
 
 met-requires : tie.Need-met-requires
-met-requires c κs = omega (arith, pair-places (c .before .before .before .before .before .before .args .list) (c .before .if2 .left) (c .if3 .left))
+met-requires c κs = omega
+    (arith, pair-places (c .before .before .before .before .before .before .args .list) (c .before .if2 .left) (c .if3 .left))
 
 pair-requires : tie.Need-pair-requires
 pair-requires c κs = search needs
@@ -56,9 +59,11 @@ returns-4 c =
     let l = c .before .before .before .before in
     let p = l .before .before in
     let a = p .before .before .args in
-    let f = sym (ap (λ (w : ℕ → ℕ). metBy w (a .i) (p .place .result)) (pair-place (a .list) (c .before .before .before .if2 .left) (c .before .before .if3 .left) (a .books .now))) in
+    let f = sym (ap (λ (w : ℕ → ℕ). metBy w (a .i) (p .place .result))
+    (pair-place (a .list) (c .before .before .before .if2 .left) (c .before .before .if3 .left) (a .books .now))) in
     c .pair .ensures
-    ∙ found-pair (a .list) (a .marks) (placeIn (a .list) (a .books .now)) (a .i) _ _ (p .place .ensures) (l .before .if1 .left) (l .last .ensures) (c .before .before .before .if2 .left) (c .before .before .if3 .left) _ (c .before .met .ensures ∙ f)
+    ∙ found-pair (a .list) (a .marks) (placeIn (a .list) (a .books .now)) (a .i) _ _ (p .place .ensures) (l .before .if1 .left)
+    (l .last .ensures) (c .before .before .before .if2 .left) (c .before .before .if3 .left) _ (c .before .met .ensures ∙ f)
 
 pub found-spec : {M : Type 1} → statement M
 found-spec =

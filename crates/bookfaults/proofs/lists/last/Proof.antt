@@ -1,6 +1,6 @@
 -- `lists::last` meets its contract. Assumes nothing.
 use Rattle.bookfaults.specs.Clauses.{placeIn}
-use Rattle.bookfaults.proofs.Places.{last-none, last-is}
+use Rattle.bookfaults.proofs.Places.{last-is}
 use borrow.Author.Needs.{needs}
 use Rattle.bookfaults.proofs.lists.last.Statement.{statement}
 use Rattle.bookfaults.proofs.lists.last.Tie as tie

@@ -1,5 +1,5 @@
 -- `lists::met` meets its contract. Assumes nothing.
-use Prim.Native.Nat.{ℕ, _-_, _≤_}
+use Prim.Native.Nat.{_-_, _≤_}
 use mathlib.Core.Path.{_≡_, refl, sym, _∙_}
 use native.Mathlib.Omega.{arith}
 use borrow.Author.Needs.{needs}
@@ -37,7 +37,8 @@ returns : tie.Need-returns Inv-loop μ-loop
 returns c =
     let l = c .before .before .before .before in
     let a = l .before .before .args in
-    met-here (splitPlace (a .books .now)) (a .w) (l .loop .j) (c .before .before .before .loop-test .taken) _ (c .before .before .u64-at .ensures) _ (c .before .meets .ensures) (c .if1 .taken) ∙ sym (l .loop .inv .1)
+    met-here (splitPlace (a .books .now)) (a .w) (l .loop .j) (c .before .before .before .loop-test .taken) _
+    (c .before .before .u64-at .ensures) _ (c .before .meets .ensures) (c .if1 .taken) ∙ sym (l .loop .inv .1)
 
 sub-j : tie.Need-sub-j Inv-loop μ-loop
 sub-j c = omega arith
@@ -48,8 +49,11 @@ loop-less c = omega arith
 loop-again : tie.Need-loop-again Inv-loop μ-loop
 loop-again c =
     let l = c .before .before .before .before in
-    let a = l .before .before .args in
-    (omega arith, l .loop .inv .1 ∙ met-next (splitPlace (a .books .now)) (a .w) (l .loop .j) (c .before .before .before .loop-test .taken) _ (c .before .before .u64-at .ensures) _ (c .before .meets .ensures) (c .if1 .left))
+    let a = l .before .before .args in (
+      omega arith,
+      l .loop .inv .1 ∙ met-next (splitPlace (a .books .now)) (a .w) (l .loop .j) (c .before .before .before .loop-test .taken)
+          _ (c .before .before .u64-at .ensures) _ (c .before .meets .ensures) (c .if1 .left),
+    )
 
 returns-2 : tie.Need-returns-2 Inv-loop μ-loop
 returns-2 c =

@@ -1,5 +1,5 @@
 -- `lists::place` meets its contract. Assumes nothing.
-use Prim.Native.Nat.{ℕ, _<_}
+use Prim.Native.Nat.{ℕ}
 use mathlib.Core.Path.{sym, ap, _∙_}
 use native.Mathlib.Omega.{arith}
 use Rattle.bookfaults.proofs.Places.{code-places, code-place, filter-places, filter-place, pair-places, pair-place}
@@ -32,7 +32,8 @@ u32-at-requires-2 c κs = omega (arith, filter-places (c .before .before .before
 returns-2 : tie.Need-returns-2
 returns-2 c =
     let a = c .before .before .before .before .args in
-    c .u32-at2 .ensures ∙ sym (ap (λ (w : ℕ → ℕ). w (a .i)) (filter-place (a .list) (c .before .before .if1 .left) (c .before .if2 .taken) (a .books .now)))
+    c .u32-at2 .ensures ∙ sym
+    (ap (λ (w : ℕ → ℕ). w (a .i)) (filter-place (a .list) (c .before .before .if1 .left) (c .before .if2 .taken) (a .books .now)))
 
 mul-u64-at : tie.Need-mul-u64-at
 mul-u64-at c = omega (arith, pair-places (c .before .before .before .args .list) (c .before .if1 .left) (c .if2 .left))
@@ -46,7 +47,8 @@ u64-at-requires c κs = omega (arith, pair-places (c .before .before .before .ar
 returns-3 : tie.Need-returns-3
 returns-3 c =
     let a = c .before .before .before .before .args in
-    c .u64-at .ensures ∙ sym (ap (λ (w : ℕ → ℕ). w (a .i)) (pair-place (a .list) (c .before .before .if1 .left) (c .before .if2 .left) (a .books .now)))
+    c .u64-at .ensures ∙ sym
+    (ap (λ (w : ℕ → ℕ). w (a .i)) (pair-place (a .list) (c .before .before .if1 .left) (c .before .if2 .left) (a .books .now)))
 
 pub place-spec : {M : Type 1} → statement M
 place-spec =

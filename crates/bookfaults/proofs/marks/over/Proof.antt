@@ -30,7 +30,8 @@ returns c =
     let l = c .before .before .before .before in
     let p = l .before .before .args .p .now in
     let f = c .before .before .found in
-    sym (l .loop .inv .1 ∙ fault-here (markFound p) (length p) (l .loop .i) (c .before .before .before .loop-test .taken) (f .result) (f .ensures) (c .if1 .taken))
+    sym (l .loop .inv .1 ∙ fault-here (markFound p) (length p) (l .loop .i) (c .before .before .before .loop-test .taken) (f .result)
+    (f .ensures) (c .if1 .taken))
 
 add-i : tie.Need-add-i Inv-loop μ-loop
 add-i c = omega arith
@@ -42,8 +43,11 @@ loop-again : tie.Need-loop-again Inv-loop μ-loop
 loop-again c =
     let l = c .before .before .before .before in
     let p = l .before .before .args .p .now in
-    let f = c .before .before .found in
-    (omega arith, l .loop .inv .1 ∙ fault-next (markFound p) (length p) (l .loop .i) (c .before .before .before .loop-test .taken) (f .result) (f .ensures) (omega (arith, c .if1 .left)))
+    let f = c .before .before .found in (
+      omega arith,
+      l .loop .inv .1 ∙ fault-next (markFound p) (length p) (l .loop .i) (c .before .before .before .loop-test .taken)
+          (f .result) (f .ensures) (omega (arith, c .if1 .left)),
+    )
 
 whole-requires : tie.Need-whole-requires Inv-loop μ-loop
 whole-requires c κs = search needs

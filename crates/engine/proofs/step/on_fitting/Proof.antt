@@ -1,5 +1,5 @@
 use denote.Ref.{now}
-use mathlib.Core.Path.{refl, sym, _∙_}
+use mathlib.Core.Path.{sym, _∙_}
 use Rattle.engine.proofs.Stepping.{fit-all, fit-rule, fit-malformed, did-is, did-malformed}
 use borrow.Author.Needs.{needs}
 use Rattle.engine.proofs.step.on_fitting.Statement.{statement}

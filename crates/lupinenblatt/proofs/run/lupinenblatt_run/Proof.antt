@@ -13,7 +13,10 @@ use Rattle.lupinenblatt.proofs.run.lupinenblatt_run.Tie as tie
 returns : tie.Need-returns
 returns c =
     let s = c .before .before .before .before .before .before .before in
-    went-refused (listed (map entryOf (now (s .args .providers)))) (now (s .args .books)) (s .args .retries) (now (s .args .events)) (now (s .args .table)) (now (s .args .tray)) (now (s .args .outcomes)) 1 _ refl (wide-run (listed (map entryOf (now (s .args .providers)))) (now (s .args .books)) (s .args .retries) (now (s .args .events)) (now (s .args .table)) (now (s .args .tray)) (now (s .args .outcomes)) (lt-leb _ _ (c .if1 .taken))) (λ z. omega (arith, z))
+    went-refused (listed (map entryOf (now (s .args .providers)))) (now (s .args .books)) (s .args .retries) (now (s .args .events))
+    (now (s .args .table)) (now (s .args .tray)) (now (s .args .outcomes)) 1 _ refl
+    (wide-run (listed (map entryOf (now (s .args .providers)))) (now (s .args .books)) (s .args .retries) (now (s .args .events))
+    (now (s .args .table)) (now (s .args .tray)) (now (s .args .outcomes)) (lt-leb _ _ (c .if1 .taken))) (λ z. omega (arith, z))
 
 cast-run : tie.Need-cast-run
 cast-run c = search needs

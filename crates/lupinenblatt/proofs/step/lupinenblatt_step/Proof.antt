@@ -10,7 +10,8 @@ use Rattle.lupinenblatt.proofs.step.lupinenblatt_step.Tie as tie
 returns : tie.Need-returns
 returns c =
     let s = c .before .before .before .before .before .before in
-    did-refuse _ _ _ _ _ (wide-retries (now (s .args .providers)) (now (s .args .books)) (s .args .retries) (now (s .args .event)) (now (s .args .table)) (now (s .args .tray)) (lt-leb _ _ (c .if1 .taken))) (refl, refl)
+    did-refuse _ _ _ _ _ (wide-retries (now (s .args .providers)) (now (s .args .books)) (s .args .retries) (now (s .args .event))
+    (now (s .args .table)) (now (s .args .tray)) (lt-leb _ _ (c .if1 .taken))) (refl, refl)
 
 cast-step : tie.Need-cast-step
 cast-step c = search needs

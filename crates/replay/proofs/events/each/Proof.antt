@@ -1,7 +1,7 @@
 -- The measure is how many turns are left; the table keeps its length.
 -- Assumes nothing.
 use borrow.Author.Needs.{needs}
-use mathlib.Core.Path.{_≡_, refl, _∙_}
+use mathlib.Core.Path.{_≡_, refl}
 use lib.ListN.{length}
 use native.Mathlib.Omega.{arith}
 use Rattle.replay.proofs.events.each.Statement.{statement}

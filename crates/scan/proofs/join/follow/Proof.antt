@@ -13,8 +13,8 @@ cast-last c = search needs
 add-last : tie.Need-add-last
 add-last c = search needs
 
-marks-requires : tie.Need-marks-requires
-marks-requires c κs = search needs
+bits-of-requires : tie.Need-bits-of-requires
+bits-of-requires c κs = search needs
 
 had-of-requires : tie.Need-had-of-requires
 had-of-requires c κs = search needs
@@ -26,23 +26,25 @@ returns : tie.Need-returns
 returns c =
     let d = c .before .before .before .before .before .before .before .before in
     let h = c .before .before .before .had-of in
-    let m = c .before .before .before .before .marks in (
-      follow-go (d .args .s) (d .args .v) (d .pre .1) (h .result) (m .result) (h .ensures .0) (m .ensures .0) (c .before .if1 .taken) (c .if2 .taken),
-      follow-few (d .args .s) (d .args .v) (d .pre .1) (h .result) (m .result) (h .ensures .0) (m .ensures .0) (c .before .if1 .taken) (c .if2 .taken),
+    let m = c .before .before .before .before .bits-of in (
+      follow-go (d .args .s) (d .args .v) (d .pre .1) (h .result) (m .result) (h .ensures .0) (m .ensures .0)
+          (c .before .if1 .taken) (c .if2 .taken),
+      follow-few (d .args .s) (d .args .v) (d .pre .1) (h .result) (m .result) (h .ensures .0) (m .ensures .0)
+          (c .before .if1 .taken) (c .if2 .taken),
     )
 
 returns-2 : tie.Need-returns-2
 returns-2 c =
     let d = c .before .before .before .before .before .before .before .before in
     let h = c .before .before .before .had-of in
-    let m = c .before .before .before .before .marks in
+    let m = c .before .before .before .before .bits-of in
     (follow-twice (d .args .s) (d .args .v) (d .pre .1) (h .result) (m .result) (h .ensures .0) (m .ensures .0) (c .if2 .left), tt)
 
 returns-3 : tie.Need-returns-3
 returns-3 c =
     let d = c .before .before .before .before .before .before .before in
     let h = c .before .before .had-of in
-    let m = c .before .before .before .marks in
+    let m = c .before .before .before .bits-of in
     (follow-late (d .args .s) (d .args .v) (d .pre .1) (h .result) (m .result) (h .ensures .0) (m .ensures .0) (c .if1 .left), tt)
 
 pub follow-spec : {M : Type 1} → statement M
@@ -52,7 +54,7 @@ follow-spec =
     mul-last
     cast-last
     add-last
-    marks-requires
+    bits-of-requires
     had-of-requires
     add-t12
     returns

@@ -1,5 +1,4 @@
 -- `join::had_of` meets its contract. Assumes nothing.
-use mathlib.Core.Path.{sym}
 use borrow.Author.Tests.{eq-eqb, ne-eqb}
 use native.Mathlib.Omega.{arith}
 use Rattle.scan.proofs.join.had_of.Statement.{statement}

@@ -47,7 +47,13 @@ unfolding marksFit sidesNeeded
 returns c =
     let d = c .before .before .before .before .before in
     let v = d .args .v in
-    rw (c .before .before .before .before .places .ensures, c .before .before .before .bit .ensures .0, c .before .before .bit2 .ensures .0, c .before .bit3 .ensures .0) (entry-rule (v .status) (v .cast .purpose) (v .live) (v .new .created) (v .old .created) (d .pre .0) (d .pre .1))
+    rw (
+      c .before .before .before .before .places .ensures,
+      c .before .before .before .bit .ensures .0,
+      c .before .before .bit2 .ensures .0,
+      c .before .bit3 .ensures .0,
+    )
+    (entry-rule (v .status) (v .cast .purpose) (v .live) (v .new .created) (v .old .created) (d .pre .0) (d .pre .1))
 
 pub marks-fit-spec : {M : Type 1} → statement M
 marks-fit-spec =

@@ -46,7 +46,10 @@ returns-10 : tie.Need-returns-10
 returns-10 c =
     let s = c .before .args .status in
     let r = c .match .rest in
-    let h : 9 ≤ s = (above 8 s (above 7 s (above 6 s (above 5 s (above 4 s (above 3 s (above 2 s (above 1 s (above 0 s (omega arith) (r .0 .0 .0 .0 .0 .0 .0 .0 .1)) (r .0 .0 .0 .0 .0 .0 .0 .1)) (r .0 .0 .0 .0 .0 .0 .1)) (r .0 .0 .0 .0 .0 .1)) (r .0 .0 .0 .0 .1)) (r .0 .0 .0 .1)) (r .0 .0 .1)) (r .0 .1)) (r .1)) in
+    let h : 9 ≤ s = (above 8 s
+    (above 7 s (above 6 s (above 5 s
+    (above 4 s (above 3 s (above 2 s (above 1 s (above 0 s (omega arith) (r .0 .0 .0 .0 .0 .0 .0 .0 .1)) (r .0 .0 .0 .0 .0 .0 .0 .1))
+    (r .0 .0 .0 .0 .0 .0 .1)) (r .0 .0 .0 .0 .0 .1)) (r .0 .0 .0 .0 .1)) (r .0 .0 .0 .1)) (r .0 .0 .1)) (r .0 .1)) (r .1)) in
     absurd (omega (arith, h, c .before .pre))
 
 pub places-spec : {M : Type 1} → statement M

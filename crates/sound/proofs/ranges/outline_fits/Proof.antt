@@ -18,7 +18,12 @@ is-provider-requires-2 c κs = search needs
 
 returns : tie.Need-returns
 unfolding outlineFits
-returns c = rw (c .before .before .before .before .before .before .ten-digits .ensures, c .before .before .before .before .before .is-number .ensures, c .before .before .before .is-provider .ensures, c .before .before .is-provider2 .ensures)
+returns c = rw (
+  c .before .before .before .before .before .before .ten-digits .ensures,
+  c .before .before .before .before .before .is-number .ensures,
+  c .before .before .before .is-provider .ensures,
+  c .before .before .is-provider2 .ensures,
+)
 
 pub outline-fits-spec : {M : Type 1} → statement M
 outline-fits-spec =

@@ -13,7 +13,8 @@ new-whole-requires c κs = search needs
 returns : tie.Need-returns
 returns c =
     let v = c .before .before .before .before .args .v in
-    sym (sides-order (sidesDiffer v) (newWhole (v .new)) (oldWhole (v .old)) (causeFits (v .old)) (cancellerFits v) ∙ rw (sym (c .before .new-whole .ensures) ∙ not-true (c .before .new-whole .result) (c .if1 .taken)))
+    sym (sides-order (sidesDiffer v) (newWhole (v .new)) (oldWhole (v .old)) (causeFits (v .old)) (cancellerFits v)
+    ∙ rw (sym (c .before .new-whole .ensures) ∙ not-true (c .before .new-whole .result) (c .if1 .taken)))
 
 old-whole-requires : tie.Need-old-whole-requires
 old-whole-requires c κs = search needs
@@ -21,7 +22,12 @@ old-whole-requires c κs = search needs
 returns-2 : tie.Need-returns-2
 returns-2 c =
     let v = c .before .before .before .before .before .before .args .v in
-    sym (sides-order (sidesDiffer v) (newWhole (v .new)) (oldWhole (v .old)) (causeFits (v .old)) (cancellerFits v) ∙ rw (sym (c .before .before .before .new-whole .ensures) ∙ not-false (c .before .before .before .new-whole .result) (c .before .before .if1 .left), sym (c .before .old-whole .ensures) ∙ not-true (c .before .old-whole .result) (c .if2 .taken)))
+    sym (sides-order (sidesDiffer v) (newWhole (v .new)) (oldWhole (v .old)) (causeFits (v .old)) (cancellerFits v)
+    ∙ rw (
+      sym (c .before .before .before .new-whole .ensures) ∙ not-false (c .before .before .before .new-whole .result)
+          (c .before .before .if1 .left),
+      sym (c .before .old-whole .ensures) ∙ not-true (c .before .old-whole .result) (c .if2 .taken),
+    ))
 
 sides-differ-requires : tie.Need-sides-differ-requires
 sides-differ-requires c κs = search needs
@@ -36,7 +42,14 @@ returns-3 : tie.Need-returns-3
 returns-3 c =
     let v = c .before .before .before .before .before .before .before .before .before .args .v in
     rw (c .before .before .sides-differ .ensures, c .before .cause-fits .ensures, c .canceller-fits .ensures)
-    (sym (sides-order (sidesDiffer v) (newWhole (v .new)) (oldWhole (v .old)) (causeFits (v .old)) (cancellerFits v) ∙ rw (sym (c .before .before .before .before .before .before .new-whole .ensures) ∙ not-false (c .before .before .before .before .before .before .new-whole .result) (c .before .before .before .before .before .if1 .left), sym (c .before .before .before .before .old-whole .ensures) ∙ not-false (c .before .before .before .before .old-whole .result) (c .before .before .before .if2 .left))))
+    (sym (sides-order (sidesDiffer v) (newWhole (v .new)) (oldWhole (v .old)) (causeFits (v .old)) (cancellerFits v)
+    ∙ rw (
+      sym (c .before .before .before .before .before .before .new-whole .ensures)
+          ∙ not-false (c .before .before .before .before .before .before .new-whole .result)
+          (c .before .before .before .before .before .if1 .left),
+      sym (c .before .before .before .before .old-whole .ensures)
+          ∙ not-false (c .before .before .before .before .old-whole .result) (c .before .before .before .if2 .left),
+    )))
 
 pub sides-fit-spec : {M : Type 1} → statement M
 sides-fit-spec =

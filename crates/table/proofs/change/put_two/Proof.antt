@@ -17,7 +17,8 @@ returns c =
     let a = st .args in
     let o = st .pre .1 .0 in
     let q = st .pre .1 .1 in
-    c .before .before .store-two .ensures ∙ stores-put (a .t .now) (a .n) (st .pre .0) (a .i) (a .v) (a .j) (a .w) (o .place) (q .place) (o .name) (q .name)
+    c .before .before .store-two .ensures ∙ stores-put (a .t .now) (a .n) (st .pre .0) (a .i) (a .v) (a .j) (a .w) (o .place)
+    (q .place) (o .name) (q .name)
 
 pub put-two-spec : {M : Type 1} → statement M
 put-two-spec = tie.close (tie.spec store-two-requires same-length returns)

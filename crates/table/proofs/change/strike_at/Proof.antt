@@ -23,7 +23,8 @@ returns c =
     let st = c .before .before .before .before .before in
     let a = st .args in
     let t = a .t .now in
-    c .before .before .remove .ensures ∙ remove-takes t (a .n) (st .pre .0) (a .i) (a .n - 1) (versionAt (decode t) (a .i) .id) (omega (arith, st .pre .1)) (omega (arith, st .pre .1)) refl
+    c .before .before .remove .ensures ∙ remove-takes t (a .n) (st .pre .0) (a .i) (a .n - 1) (versionAt (decode t) (a .i) .id)
+    (omega (arith, st .pre .1)) (omega (arith, st .pre .1)) refl
 
 pub strike-at-spec : {M : Type 1} → statement M
 strike-at-spec = tie.close (tie.spec sub-remove remove-requires same-length returns)

@@ -29,7 +29,13 @@ free-requires c κs =
 
 returns : tie.Need-returns Inv-loop μ-loop
 returns c =
-    omega (arith, used-before _ _ (c .before .before .before .before .before .pre .0) _ (omega (arith, c .before .before .before .loop .inv .1, c .before .before .loop-test .taken)) (sym (c .before .free .ensures) ∙ not-true _ (c .if1 .taken)), c .before .before .before .loop .inv .0)
+    omega (
+      arith,
+      used-before _ _ (c .before .before .before .before .before .pre .0) _
+          (omega (arith, c .before .before .before .loop .inv .1, c .before .before .loop-test .taken))
+          (sym (c .before .free .ensures) ∙ not-true _ (c .if1 .taken)),
+      c .before .before .before .loop .inv .0,
+    )
 
 sub-n : tie.Need-sub-n Inv-loop μ-loop
 sub-n c =
@@ -40,8 +46,10 @@ loop-less c =
     omega (arith, c .before .before .loop-test .taken)
 
 loop-again : tie.Need-loop-again Inv-loop μ-loop
-loop-again c =
-    (free-from _ _ (c .before .before .before .before .before .pre .0) _ (sym (c .before .free .ensures) ∙ not-false _ (c .if1 .left)), omega (arith, c .before .before .before .loop .inv .1))
+loop-again c = (
+  free-from _ _ (c .before .before .before .before .before .pre .0) _ (sym (c .before .free .ensures) ∙ not-false _ (c .if1 .left)),
+  omega (arith, c .before .before .before .loop .inv .1),
+)
 
 returns-2 : tie.Need-returns-2 Inv-loop μ-loop
 returns-2 c =

@@ -1,8 +1,7 @@
 use mathlib.Core.Path.{sym, _∙_}
 use Prim.Native.Nat.{_-_, _≤_}
 use native.Mathlib.Omega.{arith}
-use Rattle.table.proofs.Using.{free-from, used-before}
-use denote.Ref.{now}
+use Rattle.table.proofs.Using.{free-from}
 use Rattle.table.proofs.count.upward.Statement.{statement}
 use Rattle.table.proofs.count.upward.Tie as tie
 
@@ -21,8 +20,10 @@ free-requires c κs =
     omega (arith, c .before .before .before .pre .0 .whole, c .loop-test .taken)
 
 returns : tie.Need-returns Inv-loop μ-loop
-returns c =
-    (free-from _ _ (c .before .before .before .before .before .pre .0) _ (sym (c .before .free .ensures) ∙ c .if1 .taken), c .before .before .before .loop .inv)
+returns c = (
+  free-from _ _ (c .before .before .before .before .before .pre .0) _ (sym (c .before .free .ensures) ∙ c .if1 .taken),
+  c .before .before .before .loop .inv,
+)
 
 add-n : tie.Need-add-n Inv-loop μ-loop
 add-n c =

@@ -18,7 +18,8 @@ sub-result c = search needs
 returns : tie.Need-returns
 returns c =
     let s = c .before .before in
-    bit-below (c .first .result) (keyAt (s .args .t .now) (s .args .i)) (s .args .k) (s .args .least) (c .first .ensures) (s .pre .1) (s .pre .2) (omega arith)
+    bit-below (c .first .result) (keyAt (s .args .t .now) (s .args .i)) (s .args .k) (s .args .least) (c .first .ensures) (s .pre .1)
+    (s .pre .2) (omega arith)
 
 pub below-spec : {M : Type 1} → statement M
 below-spec = tie.close (tie.spec first-requires add-result sub-result returns)

@@ -34,7 +34,8 @@ returns : tie.Need-returns
 unfolding keyAt rowAt wordsIn
 returns c =
     let a = c .before .before .before .args in
-    ap (λ (k : ℕ). k / 16384) (c .u64-at .ensures ∙ ap (λ (k : ℕ). be 8 (take k (drop (a .i * ROW) (a .t .now))) 0) (add-sub-cancel-left (a .i * ROW) ROW))
+    ap (λ (k : ℕ). k / 16384)
+    (c .u64-at .ensures ∙ ap (λ (k : ℕ). be 8 (take k (drop (a .i * ROW) (a .t .now))) 0) (add-sub-cancel-left (a .i * ROW) ROW))
 
 pub first-spec : {M : Type 1} → statement M
 first-spec =

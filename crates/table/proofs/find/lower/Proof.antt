@@ -38,7 +38,8 @@ mul-lo c =
     let at = c .before .before in
     let a = at .before .before .args in
     let half = at .loop .left / 2 in
-    let few : half * c .below .result ≤ half = times-bit half (c .below .result) (ltb (keyAt (a .t .now) (at .loop .lo + half - 1)) (a .k)) (c .below .ensures) in
+    let few : half * c .below .result ≤ half = times-bit half (c .below .result) (ltb (keyAt (a .t .now) (at .loop .lo + half - 1)) (a .k))
+    (c .below .ensures) in
     omega arith
 
 add-lo : tie.Need-add-lo Inv-loop μ-loop
@@ -46,7 +47,8 @@ add-lo c =
     let at = c .before .before in
     let a = at .before .before .args in
     let half = at .loop .left / 2 in
-    let few : half * c .below .result ≤ half = times-bit half (c .below .result) (ltb (keyAt (a .t .now) (at .loop .lo + half - 1)) (a .k)) (c .below .ensures) in
+    let few : half * c .below .result ≤ half = times-bit half (c .below .result) (ltb (keyAt (a .t .now) (at .loop .lo + half - 1)) (a .k))
+    (c .below .ensures) in
     omega arith
 
 sub-left : tie.Need-sub-left Inv-loop μ-loop
@@ -65,8 +67,11 @@ loop-again c =
     let u = c .below .result in
     let few : half * u ≤ half = times-bit half u (ltb (keyAt (a .t .now) mid) (a .k)) (c .below .ensures) in
     let here : getD (keysOf (a .n) (a .t .now)) mid 0 ≡ keyAt (a .t .now) mid = keys-at (a .n) (a .t .now) mid (omega arith) in
-    let test : u ≡ cond (ltb (getD (keysOf (a .n) (a .t .now)) mid 0) (a .k)) 1 0 = rw here (c .below .ensures) in
-    (omega arith, bracket-half (keysOf (a .n) (a .t .now)) (a .k) (st .pre .1 .0) (at .loop .lo) (at .loop .left) half (at .loop .inv .1) (omega arith) (omega arith) u test)
+    let test : u ≡ cond (ltb (getD (keysOf (a .n) (a .t .now)) mid 0) (a .k)) 1 0 = rw here (c .below .ensures) in (
+      omega arith,
+      bracket-half (keysOf (a .n) (a .t .now)) (a .k) (st .pre .1 .0) (at .loop .lo) (at .loop .left) half (at .loop .inv .1)
+          (omega arith) (omega arith) u test,
+    )
 
 returns : tie.Need-returns Inv-loop μ-loop
 returns c =
@@ -81,7 +86,8 @@ add-result : tie.Need-add-result Inv-loop μ-loop
 add-result c =
     let at = c .before .before .before in
     let a = at .before .before .args in
-    let few : 1 * c .below2 .result ≤ 1 = times-bit 1 (c .below2 .result) (ltb (keyAt (a .t .now) (at .loop .lo)) (a .k)) (c .below2 .ensures) in
+    let few : 1 * c .below2 .result ≤ 1 =
+    times-bit 1 (c .below2 .result) (ltb (keyAt (a .t .now) (at .loop .lo)) (a .k)) (c .below2 .ensures) in
     omega arith
 
 returns-2 : tie.Need-returns-2 Inv-loop μ-loop
@@ -94,7 +100,8 @@ returns-2 c =
     let one : at .loop .left ≡ 1 = omega arith in
     let here : getD xs lo 0 ≡ keyAt (a .t .now) lo = keys-at (a .n) (a .t .now) lo (omega arith) in
     let test : c .below2 .result ≡ cond (ltb (getD xs lo 0) (a .k)) 1 0 = rw here (c .below2 .ensures) in
-    bracket-last xs (a .k) (st .pre .1 .0) lo (subst (λ (j : ℕ). Bracket xs (a .k) lo (lo + j)) one (at .loop .inv .1)) (c .below2 .result) test
+    bracket-last xs (a .k) (st .pre .1 .0) lo (subst (λ (j : ℕ). Bracket xs (a .k) lo (lo + j)) one (at .loop .inv .1))
+    (c .below2 .result) test
 
 pub lower-spec : {M : Type 1} → statement M
 lower-spec =

@@ -22,7 +22,8 @@ behind-requires c κs =
     let st = c .before .before .before in
     let xs = keysOf (st .args .n) (st .args .t .now) in (
       omega (arith, st .pre .0 .whole, st .pre .0 .room),
-      subst (λ (i : ℕ). i ≤ lowerOf ((st .args .tn .0 + 1) * 65536) xs) (sym (c .lower .ensures)) (lower-more (st .args .tn .0 * 65536) ((st .args .tn .0 + 1) * 65536) (omega arith) xs),
+      subst (λ (i : ℕ). i ≤ lowerOf ((st .args .tn .0 + 1) * 65536) xs) (sym (c .lower .ensures))
+          (lower-more (st .args .tn .0 * 65536) ((st .args .tn .0 + 1) * 65536) (omega arith) xs),
     )
 
 returns : tie.Need-returns

@@ -22,7 +22,8 @@ returns c =
     let a = c .before .before .before .before .before .before .args in
     let vs = decode (a .t .now) in
     rw (lt-ltb _ _ (c .before .if1 .taken))
-    (subst (λ (l : List Version). Summed vs l (a .number) (factsAt vs (a .n) (c .under .result))) (append-nil (rowsOf itself (a .high .0) vs))
+    (subst (λ (l : List Version). Summed vs l (a .number) (factsAt vs (a .n) (c .under .result)))
+    (append-nil (rowsOf itself (a .high .0) vs))
     (c .under .ensures [] (c .before .before .before .before .none .ensures vs (a .number))))
 
 returns-2 : tie.Need-returns-2

@@ -5,7 +5,7 @@ use native.Mathlib.Omega.{arith}
 use borrow.Author.Needs.{needs}
 use borrow.Author.Tests.{not-true, not-false}
 use Rattle.row.specs.Layout.{unpack}
-use Rattle.tablefaults.specs.Clauses.{versionAt, mark, sharer}
+use Rattle.tablefaults.specs.Clauses.{sharer}
 use Rattle.tablefaults.proofs.Sharers.{sharer-none, sharer-end, sharer-here, sharer-next}
 use Rattle.tablefaults.proofs.above.sharer.Statement.{statement}
 use Rattle.tablefaults.proofs.above.sharer.Tie as tie
@@ -42,7 +42,9 @@ returns-2 c =
     let l = c .before .before .before .before .before .before in
     let a = l .before .before .before .before .args in
     let h = l .before .before .has in
-    sharer-here (a .n) (a .t .now) (a .v) (sym (h .ensures) ∙ not-false (h .result) (l .before .if1 .left)) (l .loop .j) (c .before .before .before .before .before .loop-test .taken) _ (c .before .before .before .before .load .ensures) _ (c .before .has2 .ensures) (c .if2 .taken)
+    sharer-here (a .n) (a .t .now) (a .v) (sym (h .ensures) ∙ not-false (h .result) (l .before .if1 .left)) (l .loop .j)
+    (c .before .before .before .before .before .loop-test .taken) _ (c .before .before .before .before .load .ensures) _
+    (c .before .has2 .ensures) (c .if2 .taken)
     ∙ sym (l .loop .inv .1)
 
 sub-j : tie.Need-sub-j Inv-loop μ-loop
@@ -59,7 +61,9 @@ loop-again c =
     let h = l .before .before .has in (
       omega arith,
       l .loop .inv .1
-          ∙ sharer-next (a .n) (a .t .now) (a .v) (sym (h .ensures) ∙ not-false (h .result) (l .before .if1 .left)) (l .loop .j) (c .before .before .before .before .before .loop-test .taken) _ (c .before .before .before .before .load .ensures) _ (c .before .has2 .ensures) (c .if2 .left),
+          ∙ sharer-next (a .n) (a .t .now) (a .v) (sym (h .ensures) ∙ not-false (h .result) (l .before .if1 .left)) (l .loop .j)
+          (c .before .before .before .before .before .loop-test .taken) _ (c .before .before .before .before .load .ensures) _
+          (c .before .has2 .ensures) (c .if2 .left),
     )
 
 returns-3 : tie.Need-returns-3 Inv-loop μ-loop

@@ -1,12 +1,9 @@
 -- `above::sinks` meets its contract. Assumes nothing.
-use Prim.Native.Nat.{ℕ, _<_}
-use mathlib.Core.Path.{sym, ap₂, _∙_, subst}
+use Prim.Native.Nat.{_<_}
+use mathlib.Core.Path.{sym, subst}
 use borrow.Author.Needs.{needs}
-use lib.Dec.{leb}
 use Rattle.model.specs.declared.Version.{Version}
-use Rattle.row.specs.Layout.{keyOf, unpack}
-use Rattle.rows.specs.Place.{rowAt}
-use Rattle.words.specs.Codec.{wordsIn}
+use Rattle.row.specs.Layout.{unpack}
 use Rattle.faults.proofs.Laws.{before-none, before-is}
 use Rattle.scan.proofs.Admits.{tn-fits}
 use Rattle.tablefaults.specs.Clauses.{sinks}

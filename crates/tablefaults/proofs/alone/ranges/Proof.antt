@@ -66,9 +66,12 @@ returns c = rw (
   c .before .before .before .before .before .before .before .before .before .before .before .is-provider .ensures,
   c .before .before .before .before .before .before .before .before .before .before .before .before .unless3 .ensures,
   c .before .before .before .before .before .before .before .before .before .before .before .before .before .before .unless2 .ensures,
-  c .before .before .before .before .before .before .before .before .before .before .before .before .before .before .before .sets-in-range .ensures,
-  c .before .before .before .before .before .before .before .before .before .before .before .before .before .before .before .before .unless .ensures,
-  c .before .before .before .before .before .before .before .before .before .before .before .before .before .before .before .before .before .rest-in-range .ensures,
+  c .before .before .before .before .before .before .before .before .before .before .before .before .before .before
+      .before .sets-in-range .ensures,
+  c .before .before .before .before .before .before .before .before .before .before .before .before .before .before .before
+      .before .unless .ensures,
+  c .before .before .before .before .before .before .before .before .before .before .before .before .before .before .before .before
+      .before .rest-in-range .ensures,
 )
 
 pub ranges-spec : {M : Type 1} → statement M

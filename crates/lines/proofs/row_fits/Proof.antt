@@ -1,4 +1,4 @@
--- `lines::fitting` meets its contract. Assumes nothing.
+-- `lines::row_fits` meets its contract. Assumes nothing.
 use Prim.Native.Nat.{ℕ, _+_, _*_, _/_, _%_}
 use mathlib.Core.Path.{_≡_, sym, ap, _∙_}
 use native.Mathlib.Omega.{arith}
@@ -9,8 +9,8 @@ use Rattle.table.proofs.Numbered.{place-up}
 use Rattle.lines.proofs.Heads.{tells}
 use Rattle.lines.proofs.Abreast.{fits-nobody, fits-not, fits-by}
 use borrow.Author.Needs.{needs}
-use Rattle.lines.proofs.fitting.Statement.{statement}
-use Rattle.lines.proofs.fitting.Tie as tie
+use Rattle.lines.proofs.row_fits.Statement.{statement}
+use Rattle.lines.proofs.row_fits.Tie as tie
 
 head-requires : tie.Need-head-requires
 head-requires c κs =
@@ -39,7 +39,8 @@ returns c =
     let w = c .before .before .head in
     let vs = decode (a .t .now) in
     let g = tells (a .t .now) (a .n) (a .i) (w .result) (st .pre .0) (st .pre .1 .0 .1) (w .ensures) (omega arith) in
-    sym (fits-nobody (a .c) vs (versionAt vs (a .i)) (w .result / 1073741824) (w .result / 16384 % 65536) (g .tn) (g .number) (c .before .nobody .result) (c .before .nobody .ensures) (c .if1 .taken))
+    sym (fits-nobody (a .c) vs (versionAt vs (a .i)) (w .result / 1073741824) (w .result / 16384 % 65536) (g .tn) (g .number)
+    (c .before .nobody .result) (c .before .nobody .ensures) (c .if1 .taken))
 
 cast-number : tie.Need-cast-number
 cast-number c = search needs
@@ -76,7 +77,9 @@ returns-2 c =
     let w = c .before .before .before .before .before .before .head in
     let vs = decode (a .t .now) in
     let g = tells (a .t .now) (a .n) (a .i) (w .result) (st .pre .0) (st .pre .1 .0 .1) (w .ensures) (omega arith) in
-    fits-by (a .c) vs (versionAt vs (a .i)) (w .result / 1073741824) (w .result / 16384 % 65536) (g .tn) (g .number) (c .before .before .before .absent .result) (c .before .before .before .absent .ensures) (c .before .before .if2 .taken) (c .before .held-of .result) (c .before .held-of .ensures ∙ g .held) (c .spared .result) (c .spared .ensures)
+    fits-by (a .c) vs (versionAt vs (a .i)) (w .result / 1073741824) (w .result / 16384 % 65536) (g .tn) (g .number)
+    (c .before .before .before .absent .result) (c .before .before .before .absent .ensures) (c .before .before .if2 .taken)
+    (c .before .held-of .result) (c .before .held-of .ensures ∙ g .held) (c .spared .result) (c .spared .ensures)
 
 returns-3 : tie.Need-returns-3
 returns-3 c =
@@ -85,10 +88,11 @@ returns-3 c =
     let w = c .before .before .before .before .head in
     let vs = decode (a .t .now) in
     let g = tells (a .t .now) (a .n) (a .i) (w .result) (st .pre .0) (st .pre .1 .0 .1) (w .ensures) (omega arith) in
-    sym (fits-not (a .c) vs (versionAt vs (a .i)) (w .result / 1073741824) (w .result / 16384 % 65536) (g .tn) (g .number) (c .before .absent .result) (c .before .absent .ensures) (c .if2 .left))
+    sym (fits-not (a .c) vs (versionAt vs (a .i)) (w .result / 1073741824) (w .result / 16384 % 65536) (g .tn) (g .number)
+    (c .before .absent .result) (c .before .absent .ensures) (c .if2 .left))
 
-pub fitting-spec : {M : Type 1} → statement M
-fitting-spec =
+pub row-fits-spec : {M : Type 1} → statement M
+row-fits-spec =
     tie.close
     (tie.spec
     head-requires

@@ -1,8 +1,8 @@
--- `join::marks` meets its contract. Assumes nothing.
+-- `join::bits_of` meets its contract. Assumes nothing.
 use native.Mathlib.Omega.{arith}
 use borrow.Author.Needs.{needs}
-use Rattle.scan.proofs.join.marks.Statement.{statement}
-use Rattle.scan.proofs.join.marks.Tie as tie
+use Rattle.scan.proofs.join.bits_of.Statement.{statement}
+use Rattle.scan.proofs.join.bits_of.Tie as tie
 
 bit-requires : tie.Need-bit-requires
 bit-requires c κs = search needs
@@ -29,10 +29,18 @@ add-result-2 : tie.Need-add-result-2
 add-result-2 c = search needs
 
 returns : tie.Need-returns
-returns c = (rw (c .before .before .before .before .bit .ensures .0, c .before .before .bit2 .ensures .0, c .bit3 .ensures .0, c .before .is-worked .ensures), omega (arith, c .before .before .before .before .bit .ensures .1, c .before .before .bit2 .ensures .1, c .bit3 .ensures .1))
+returns c = (
+  rw (
+    c .before .before .before .before .bit .ensures .0,
+    c .before .before .bit2 .ensures .0,
+    c .bit3 .ensures .0,
+    c .before .is-worked .ensures,
+  ),
+  omega (arith, c .before .before .before .before .bit .ensures .1, c .before .before .bit2 .ensures .1, c .bit3 .ensures .1),
+)
 
-pub marks-spec : {M : Type 1} → statement M
-marks-spec =
+pub bits-of-spec : {M : Type 1} → statement M
+bits-of-spec =
     tie.close
     (tie.spec
     bit-requires
