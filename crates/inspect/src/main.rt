@@ -5,16 +5,23 @@ mod texts;
 mod version;
 
 use faults::Fault;
+use model::limit;
 use scan::Soundness;
 use words::ROW;
 ghost use mathlib.Core.Path.{_≡_};
 ghost use lib.ListN.{length};
 
 // A table of 4,096 rows, a provider list and books, and a byte more each: what is longer is told as it is.
-fn free_rows() -> [u8; 327681]
+const TABLE: usize = limit::ROWS * ROW + 1;
+
+const PROVIDERS: usize = limit::PROVIDERS as usize + 1;
+
+const BOOKS: usize = books::BOOK_BYTES + 1;
+
+fn free_rows() -> [u8; TABLE]
     ensures { λ r. ⌜ 327681 ≡ length r ⌝ }
 {
-    [0; 327681]
+    [0; TABLE]
 }
 
 fn say_sound(table: &[u8]) {
@@ -47,18 +54,18 @@ fn inspect(table: &[u8], providers: &[u8], books: &[u8]) {
 // Reads the three files, and goes on if all of them were read.
 fn run() {
     let mut table = free_rows();
-    let mut providers = [0u8; 64];
-    let mut books = [0u8; 8713];
+    let mut providers = [0u8; PROVIDERS];
+    let mut books = [0u8; BOOKS];
     let t = files::load(1, &mut table);
     let p = files::load(2, &mut providers);
     let b = files::load(3, &mut books);
-    if t > 327681 {
+    if t > TABLE {
         return;
     }
-    if p > 64 {
+    if p > PROVIDERS {
         return;
     }
-    if b > 8713 {
+    if b > BOOKS {
         return;
     }
     inspect(&table[..t], &providers[..p], &books[..b]);

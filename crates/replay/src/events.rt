@@ -7,6 +7,7 @@ use crate::names::MESSAGES;
 use crate::names::OUTCOMES;
 use crate::summary;
 use batch::Ran;
+use model::limit;
 use record::RECORD;
 use tray::MESSAGE_SIZE;
 ghost use mathlib.Core.Path.{_≡_};
@@ -14,6 +15,8 @@ ghost use lib.ListN.{length};
 
 // The messages that find room: 64 for each of the 1,024 records that are read at once.
 const TRAY_PLACES: u64 = 65536;
+// Bytes of the smallest tray.
+const LEAST_TRAY: usize = limit::PLACES * MESSAGE_SIZE;
 // So many events and again so many: a line of progress.
 const PROGRESS: u64 = 10_000;
 
@@ -199,7 +202,7 @@ fn rest(
     if !files::ended(s.input, EVENTS) {
         return 0;
     }
-    let mut tray = [0u8; 1536];
+    let mut tray = [0u8; LEAST_TRAY];
     let a = engine::step::step(table, providers, books, most, event, &mut tray);
     summary::count(tally, a.outcome);
     say_part(event.len() as u64, a.outcome);

@@ -26,6 +26,8 @@ ghost use lib.ListN.{length};
 
 // Providers at most, and so bytes of a provider list.
 const MOST_PROVIDERS: usize = limit::PROVIDERS as usize;
+// Bytes of the largest table.
+const TABLE_BYTES: usize = limit::ROWS * ROW;
 
 // R, or more than 7 where the argument is none.
 fn retries() -> u8 {
@@ -157,10 +159,10 @@ fn begin(table: &mut [u8], providers: &[u8], books: &[u8], most: u8, from: u64) 
 }
 
 // 4,096 free rows.
-fn free_rows() -> [u8; 327680]
+fn free_rows() -> [u8; TABLE_BYTES]
     ensures { λ r. ⌜ 327680 ≡ length r ⌝ }
 {
-    [0; 327680]
+    [0; TABLE_BYTES]
 }
 
 // Reads what is lent to each event, and goes on if all of it was read.
@@ -171,7 +173,7 @@ fn run(most: u8, from: u64) {
     let t = files::load(TABLE, &mut table);
     let p = files::load(PROVIDERS, &mut providers);
     let b = files::load(BOOKS, &mut books);
-    if t > 327680 {
+    if t > TABLE_BYTES {
         return;
     }
     if p > MOST_PROVIDERS {

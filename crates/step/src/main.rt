@@ -4,13 +4,19 @@ use libc::STDIN_FILENO;
 use libc::STDOUT_FILENO;
 use model::Provider;
 use model::Version;
+use model::limit;
+use record::RECORD;
+use tray::MESSAGE_SIZE;
 use words::ROW;
 
 const RETRIES: u8 = 0;
 
 const ROWS: usize = 256;
 
-const RECORD: usize = 24;
+// Bytes of the table, and of the smallest tray.
+const TABLE_BYTES: usize = ROWS * ROW;
+
+const LEAST_TRAY: usize = limit::PLACES * MESSAGE_SIZE;
 
 const CODES_AT: usize = 8;
 
@@ -50,7 +56,7 @@ fn print_version(v: Version) {
 
 // The code 303555 of provider 1, and the filter (3, 303555): each the first place of its list, with the free one behind it.
 fn put_books(books: &mut [u8]) {
-    if books.len() != 8712 {
+    if books.len() != books::BOOK_BYTES {
         return;
     }
     octets::put_u64(books, CODES_AT, (303_555 * 64 + 1) * PLACE);
@@ -106,9 +112,9 @@ fn run(table: &mut [u8], list: [Provider; 3], books: &mut [u8], tray: &mut [u8])
 }
 
 fn main() {
-    let mut table = [0u8; 20480];
-    let mut books = [0u8; 8712];
-    let mut tray = [0u8; 1536];
+    let mut table = [0u8; TABLE_BYTES];
+    let mut books = [0u8; books::BOOK_BYTES];
+    let mut tray = [0u8; LEAST_TRAY];
     let list = sample::built_in();
     run(&mut table, list, &mut books, &mut tray);
 }
