@@ -7,6 +7,8 @@ use model::mark;
 ghost use mathlib.Core.Path.{_≡_};
 ghost use mathlib.Core.Bool.{true, false};
 ghost use Prim.Native.Nat.{_≤_, _<_, max};
+ghost use Rattle.model.specs.Numbers.{lastProvider};
+ghost use Rattle.model.specs.Books.{mostRetries};
 ghost use Rattle.model.specs.Answers.{answering, awaited, again, succeeds, moves, moved, heard};
 ghost use Rattle.answers.specs.Waits.{Waits};
 
@@ -29,7 +31,7 @@ pub fn awaited(e: Event, v: Version) -> bool
 
 // A silence with fewer than R retries used asks again.
 pub fn again(most: u8, e: Event, c: Broadcast) -> bool
-    requires { ⌜ (1 ≤ answering e) × (answering e ≤ 63) ⌝ }
+    requires { ⌜ (1 ≤ answering e) × (answering e ≤ lastProvider) ⌝ }
     ensures { λ r. ⌜ r ≡ again most e c ⌝ }
 {
     let n = retries::used(c.retries, answering(e));
@@ -72,7 +74,7 @@ fn leaves(success: bool, p: u8, d: u8, c: Broadcast) -> Broadcast
 }
 
 fn moved(most: u8, e: Event, c: Broadcast) -> Broadcast
-    requires { ⌜ most ≤ 7 ⌝ }
+    requires { ⌜ most ≤ mostRetries ⌝ }
     requires { ⌜ Waits c (answering e) ⌝ }
     ensures { λ r. ⌜ r ≡ moved most e c ⌝ }
 {
@@ -92,7 +94,7 @@ fn later(a: u32, b: u32) -> u32
 
 // The version after an awaited answer.
 pub fn heard(most: u8, e: Event, v: Version) -> Version
-    requires { ⌜ most ≤ 7 ⌝ }
+    requires { ⌜ most ≤ mostRetries ⌝ }
     requires { ⌜ Waits (v .cast) (answering e) ⌝ }
     ensures { λ r. ⌜ r ≡ heard most e v ⌝ }
 {

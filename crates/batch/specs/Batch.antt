@@ -6,6 +6,7 @@ use mathlib.Core.Bool.{cond, _&&_}
 use mathlib.Core.List.{List, [], _∷_, _++_}
 use lib.Dec.{eqb, leb}
 use lib.ListN.{length, take, drop, set}
+use Rattle.model.specs.Books.{soundRetries}
 use Rattle.packing.specs.Layout.{RECORD}
 use Rattle.model.specs.Outcomes.{numberOf}
 use Rattle.model.specs.Given.{Result}
@@ -62,7 +63,7 @@ begin t y o = record { table = t; tray = y; outs = o; events = 0; messages = 0 }
 -- an event; otherwise 2: the records are not whole.
 unfoldable pub refusal : Listed → List ℕ → ℕ → List ℕ → List ℕ → List ℕ → List ℕ → ℕ
 refusal l b most es t y o =
-    cond (formed l b t && leb most 7 && leb PLACES (placesIn y) && leb (2 * (length es / RECORD)) (length o))
+    cond (formed l b t && soundRetries most && leb PLACES (placesIn y) && leb (2 * (length es / RECORD)) (length o))
     (cond (eqb (length es % RECORD) 0) 0 2) 1
 
 -- what a run leaves

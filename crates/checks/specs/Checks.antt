@@ -4,6 +4,7 @@ use mathlib.Core.Bool.{Bool, cond, _&&_}
 use mathlib.Core.List.{List, map}
 use Prim.Native.Nat.{ℕ}
 use lib.Dec.{leb}
+use Rattle.model.specs.Books.{soundRetries}
 use Rattle.model.specs.Step.{PLACES}
 use Rattle.providers.specs.Providers.{listed, entryOf}
 use Rattle.providers.specs.declared.Listed.{Listed}
@@ -23,7 +24,7 @@ soundnessLent l b t = cond (booksFit l b) (soundnessIn b t) Unsound
 
 -- R is 0 to 7, and the tray has its places
 abbrev pub fitting : ℕ → ℕ → Bool
-fitting most places = leb most 7 && leb PLACES places
+fitting most places = soundRetries most && leb PLACES places
 
 -- outcome 0 and the used rows, or outcome 1 [T2, O2]
 abbrev pub checkedTable : Soundness → Answer

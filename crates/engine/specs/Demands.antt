@@ -6,6 +6,7 @@ use Prim.Native.Nat.{ℕ, _+_, _≤_}
 use mathlib.Core.Bool.{Bool, true, false}
 use mathlib.Core.List.{List, [], _∷_, _++_, map}
 use lib.ListN.{length}
+use Rattle.model.specs.Books.{mostRetries}
 use Rattle.model.specs.Step.{PLACES}
 use Rattle.octets.specs.Octets.{Bytes, be}
 use Rattle.octets.specs.Fields.{cut}
@@ -59,7 +60,7 @@ module _ (p b : List ℕ) (most : ℕ) (y : List ℕ) where
     pub table : soundnessLent (listed (map entryOf p)) b t ≡ Sound used
     pub free : used + length es ≤ rowsIn t
     pub formed : All (λ (e : List ℕ). isRecord (readEvent e) ≡ true) es
-    pub retries : most ≤ 7
+    pub retries : most ≤ mostRetries
     pub places : PLACES ≤ placesIn y
 
   -- the same final bytes, the same outcome for each record, and for each system and line the same messages in the same order

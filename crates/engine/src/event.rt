@@ -12,7 +12,7 @@ ghost use mathlib.Core.Option.{some};
 ghost use Prim.Native.Nat.{_≤_, _<_};
 ghost use lib.ListN.{length};
 ghost use Rattle.model.specs.Numbers.{codeOf};
-ghost use Rattle.model.specs.Books.{ownerOf, soundSplits};
+ghost use Rattle.model.specs.Books.{ownerOf, soundSplits, mostRetries};
 ghost use Rattle.model.specs.Record.{isCreate, isBroadcast};
 ghost use Rattle.model.specs.Selection.{selectedFor};
 ghost use Rattle.model.specs.Sound.{soundLines};
@@ -92,7 +92,7 @@ pub fn on_event(
     tray: &mut [u8],
 ) -> Answer
     requires { ⌜ SoundTable (now table) n ⌝ }
-    requires { ⌜ Ready marks (now books) e (placesIn (now tray)) × (most ≤ 7)
+    requires { ⌜ Ready marks (now books) e (placesIn (now tray)) × (most ≤ mostRetries)
         × (soundLines (lineBy (now books)) (decode (now table)) ≡ true) ⌝ }
     ensures { λ r. ⌜ Did (rule (givenTo marks (now (books .entry)) most (now (table .entry)) e)) (now (table .entry)) (now (tray .entry))
         (now (table .exit)) (now (tray .exit)) r ⌝ }

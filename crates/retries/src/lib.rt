@@ -2,6 +2,7 @@
 use model::Retries;
 ghost use mathlib.Core.Path.{_≡_};
 ghost use Prim.Native.Nat.{_≤_, _<_, _^_};
+ghost use Rattle.model.specs.Numbers.{lastProvider};
 ghost use Rattle.model.specs.Retries.{octal, withOctal, used, withUsed};
 ghost use Rattle.retries.specs.Octals.{Octals};
 
@@ -23,7 +24,7 @@ fn with_digit(w: u64, q: u8, d: u8) -> u64
 
 // The retries that system p has used.
 pub fn used(r: Retries, p: u8) -> u8
-    requires { ⌜ (1 ≤ p) × (p ≤ 63) ⌝ }
+    requires { ⌜ (1 ≤ p) × (p ≤ lastProvider) ⌝ }
     ensures { λ n. ⌜ (n ≡ used r p) × (n < 8) ⌝ }
 {
     if p <= 21 {
@@ -37,7 +38,7 @@ pub fn used(r: Retries, p: u8) -> u8
 
 // System p has used d.
 pub fn with_used(r: Retries, p: u8, d: u8) -> Retries
-    requires { ⌜ (1 ≤ p) × (p ≤ 63) × (d < 8) ⌝ }
+    requires { ⌜ (1 ≤ p) × (p ≤ lastProvider) × (d < 8) ⌝ }
     requires { ⌜ Octals r ⌝ }
     ensures { λ n. ⌜ n ≡ withUsed r p d ⌝ }
 {

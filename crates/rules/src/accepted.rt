@@ -16,6 +16,9 @@ ghost use mathlib.Core.Bool.{cond};
 ghost use mathlib.Core.Option.{none};
 ghost use mathlib.Core.List.{[], _∷_, _++_};
 ghost use Prim.Native.Nat.{_+_, _≤_, _<_};
+ghost use Rattle.model.specs.Sound.{disconnect};
+ghost use Rattle.model.specs.Numbers.{lastNumber};
+ghost use Rattle.model.specs.Books.{mostRetries};
 ghost use Rattle.model.specs.Record.{isModify};
 ghost use Rattle.model.specs.Table.{put, add};
 ghost use Rattle.model.specs.Given.{accept};
@@ -136,7 +139,7 @@ fn cast(i: usize, w: Version, lives: Seen) -> Verdict
 
 // The modifies, the kinds that begin a broadcast, and purge.
 fn plain(selected: u64, i: usize, e: Event, v: Version, lives: Seen) -> Verdict
-    requires { ⌜ v .cast .purpose ≤ 3 ⌝ }
+    requires { ⌜ v .cast .purpose ≤ disconnect ⌝ }
     requires { ⌜ (e .kind ≡ 6 → ⊥) × (e .kind ≡ 7 → ⊥) × (e .kind ≡ 8 → ⊥) × (e .kind ≡ 13 → ⊥) ⌝ }
     ensures { λ r. ⌜ Manages selected i e v lives r ⌝ }
 {
@@ -162,7 +165,7 @@ fn is_modify(kind: u8) -> bool
 
 // Kinds 3 to 10 and 13 to 15 for v, at place i; `selected` is whom a broadcast asks.
 pub fn managed(selected: u64, i: usize, e: Event, v: Version, lives: Seen) -> Verdict
-    requires { ⌜ v .cast .purpose ≤ 3 ⌝ }
+    requires { ⌜ v .cast .purpose ≤ disconnect ⌝ }
     ensures { λ r. ⌜ Manages selected i e v lives r ⌝ }
 {
     let kind = e.kind;
@@ -179,7 +182,7 @@ pub fn managed(selected: u64, i: usize, e: Event, v: Version, lives: Seen) -> Ve
 
 // The download again if there is one, then what the close tells.
 fn answer_mail(again: bool, p: u8, v: Version, w: Version) -> Mail
-    requires { ⌜ v .cast .purpose ≤ 3 ⌝ }
+    requires { ⌜ v .cast .purpose ≤ disconnect ⌝ }
     ensures { λ r. ⌜ messagesOf r ≡ cond again (downloadTo v p ∷ []) [] ++ settlingTold w ⌝ }
 {
     if again {
@@ -199,7 +202,7 @@ fn answer_mail(again: bool, p: u8, v: Version, w: Version) -> Mail
 
 // An awaited answer for v, at place i.
 pub fn answered(most: u8, i: usize, e: Event, v: Version, lives: Seen) -> Verdict
-    requires { ⌜ (most ≤ 7) × (v .cast .purpose ≤ 3) ⌝ }
+    requires { ⌜ (most ≤ mostRetries) × (v .cast .purpose ≤ disconnect) ⌝ }
     requires { ⌜ Waits (v .cast) (answering e) ⌝ }
     ensures { λ r. ⌜ Settles (answers most e v) i (v .id) lives r ⌝ }
 {
@@ -231,7 +234,7 @@ fn added(w: Version) -> Verdict
 
 // A create: a fresh version, numbered one above the newest, or a concurrence with the worked one.
 pub fn created(e: Event, last: u16, worked: Seen) -> Verdict
-    requires { ⌜ (theOne worked ≡ none → last < 65535) ⌝ }
+    requires { ⌜ (theOne worked ≡ none → last < lastNumber) ⌝ }
     ensures { λ r. ⌜ Creates e last worked r ⌝ }
 {
     match worked {

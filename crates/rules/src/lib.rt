@@ -14,6 +14,7 @@ use verdict::Verdict;
 ghost use mathlib.Core.Path.{_≡_};
 ghost use mathlib.Core.Bool.{true, false};
 ghost use Prim.Native.Nat.{_≤_};
+ghost use Rattle.model.specs.Books.{mostRetries};
 ghost use Rattle.model.specs.Record.{isCreate, isAnswer, wellFormed};
 ghost use Rattle.model.proofs.SoundRows.{Row};
 ghost use Rattle.table.specs.declared.survey.Seen.the-variants.{One};
@@ -54,7 +55,7 @@ fn on_create(e: Event, k: Known, f: Facts) -> Verdict
 
 // Kinds 11 and 12.
 fn on_answer(e: Event, k: Known, f: Facts, i: usize, v: Version) -> Verdict
-    requires { ⌜ (wellFormed e ≡ true) × (k .most ≤ 7) × Row v ⌝ }
+    requires { ⌜ (wellFormed e ≡ true) × (k .most ≤ mostRetries) × Row v ⌝ }
     requires { ⌜ (f .asked ≡ One i v) × (isAnswer (e .kind) ≡ true) ⌝ }
     ensures { λ r. ⌜ Decides e k f r ⌝ }
 {
@@ -94,7 +95,7 @@ fn is_answer(kind: u8) -> bool
 
 // A well-formed event, over the facts of its number.
 pub fn decide(e: Event, k: Known, f: Facts) -> Verdict
-    requires { ⌜ (wellFormed e ≡ true) × (k .most ≤ 7) ⌝ }
+    requires { ⌜ (wellFormed e ≡ true) × (k .most ≤ mostRetries) ⌝ }
     requires { ⌜ (isCreate (e .kind) ≡ false → Kept (f .asked)) ⌝ }
     ensures { λ r. ⌜ Decides e k f r ⌝ }
 {

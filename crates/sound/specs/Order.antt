@@ -5,16 +5,16 @@ use mathlib.Core.Bool.{Bool, _&&_}
 use lib.Dec.{ltb, leb}
 use Rattle.model.specs.declared.Version.{Version}
 use Rattle.model.specs.Numbers.{tenDigits, isProvider, isTime, isNumber}
-use Rattle.model.specs.Sound.{sidesDiffer, newWhole, oldWhole, causeFits, cancellerFits, startFits, waitingFits, liveConfirmed}
+use Rattle.model.specs.Sound.{sidesDiffer, newWhole, oldWhole, causeFits, cancellerFits, startFits, waitingFits, liveConfirmed, isStatus, isPurpose, isCanceller}
 use Rattle.sets.specs.Order.{setsFit, retriesSound}
 use Rattle.sound.specs.Marks.{marksFit}
 
 -- the ranges of all but the times, the sets and the retries [V1]
 unfoldable pub outlineFits : Version → Bool
 outlineFits v =
-    tenDigits (v .id .tn .0) && isNumber (v .id .number) && leb (v .status) 8 && isProvider (v .new .provider)
-    && isProvider (v .old .provider) && leb (v .canceller) 2
-    && leb (v .cast .purpose) 3
+    tenDigits (v .id .tn .0) && isNumber (v .id .number) && isStatus (v .status) && isProvider (v .new .provider)
+    && isProvider (v .old .provider) && isCanceller (v .canceller)
+    && isPurpose (v .cast .purpose)
 
 -- all but the broadcast
 unfoldable pub shapeFits : Version → Bool

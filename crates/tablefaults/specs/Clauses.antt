@@ -11,7 +11,7 @@ use Rattle.faults.specs.Faults.{Clause, alone, beside, foundAt, firstBroken, be
 use Rattle.model.specs.declared.Broadcast.{Broadcast}
 use Rattle.model.specs.declared.Version.{Version}
 use Rattle.model.specs.Numbers.{tenDigits, isProvider, isSet, isTime, isNumber}
-use Rattle.model.specs.Sound.{retriesInRange, sidesDiffer, newWhole, oldWhole, oneCreated, sidesNeeded, causeFits, cancellerFits}
+use Rattle.model.specs.Sound.{retriesInRange, sidesDiffer, newWhole, oldWhole, oneCreated, sidesNeeded, causeFits, cancellerFits, isStatus, isPurpose, isCanceller}
 use Rattle.model.specs.Sound.{setsApart, retriesFit, startFits, waitingFits, purposeFits, liveFits, liveConfirmed, live, sends, worked}
 use Rattle.model.specs.Sound.{mostRows}
 use Rattle.words.specs.declared.Words.{Words}
@@ -28,17 +28,17 @@ setsInRange c = isSet (c .confirmed) && isSet (c .waiting) && isSet (c .failed)
 
 -- (two bits hold no purpose above 3, and 32 no start beyond the last second: of a row's bytes only the retries can break it)
 abbrev pub restInRange : Broadcast → Bool
-restInRange c = leb (c .purpose) 3 && ltb (c .start) (2 ^ 32) && retriesInRange (c .retries)
+restInRange c = isPurpose (c .purpose) && ltb (c .start) (2 ^ 32) && retriesInRange (c .retries)
 
 abbrev pub rangeClauses : Version → List Clause
 rangeClauses v =
     alone 5 (tenDigits (v .id .tn .0))
     ∷ alone 6 (isNumber (v .id .number))
-    ∷ alone 7 (leb (v .status) 8)
+    ∷ alone 7 (isStatus (v .status))
     ∷ alone 8 (isTime (v .stamp))
     ∷ alone 9 (isProvider (v .new .provider))
     ∷ alone 10 (isProvider (v .old .provider))
-    ∷ alone 11 (leb (v .canceller) 2)
+    ∷ alone 11 (isCanceller (v .canceller))
     ∷ alone 12 (setsInRange (v .cast))
     ∷ alone 13 (restInRange (v .cast))
     ∷ []
