@@ -2,10 +2,11 @@
 -- Assumes nothing.
 use Prim.Native.Nat.{_^_}
 use mathlib.Core.Bool.{Bool, _&&_}
-use lib.Dec.{ltb, leb}
+use lib.Dec.{ltb}
 use Rattle.model.specs.declared.Version.{Version}
 use Rattle.model.specs.Numbers.{tenDigits, isProvider, isTime, isNumber}
-use Rattle.model.specs.Sound.{sidesDiffer, newWhole, oldWhole, causeFits, cancellerFits, startFits, waitingFits, liveConfirmed, isStatus, isPurpose, isCanceller}
+use Rattle.model.specs.Sound.{sidesDiffer, newWhole, oldWhole, causeFits, cancellerFits, startFits, waitingFits, liveConfirmed, isStatus}
+use Rattle.model.specs.Sound.{isPurpose, isCanceller}
 use Rattle.sets.specs.Order.{setsFit, retriesSound}
 use Rattle.sound.specs.Marks.{marksFit}
 

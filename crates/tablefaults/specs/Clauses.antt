@@ -11,7 +11,8 @@ use Rattle.faults.specs.Faults.{Clause, alone, beside, foundAt, firstBroken, be
 use Rattle.model.specs.declared.Broadcast.{Broadcast}
 use Rattle.model.specs.declared.Version.{Version}
 use Rattle.model.specs.Numbers.{tenDigits, isProvider, isSet, isTime, isNumber}
-use Rattle.model.specs.Sound.{retriesInRange, sidesDiffer, newWhole, oldWhole, oneCreated, sidesNeeded, causeFits, cancellerFits, isStatus, isPurpose, isCanceller}
+use Rattle.model.specs.Sound.{retriesInRange, sidesDiffer, newWhole, oldWhole, oneCreated, sidesNeeded, causeFits, cancellerFits, isStatus}
+use Rattle.model.specs.Sound.{isPurpose, isCanceller}
 use Rattle.model.specs.Sound.{setsApart, retriesFit, startFits, waitingFits, purposeFits, liveFits, liveConfirmed, live, sends, worked}
 use Rattle.model.specs.Sound.{mostRows}
 use Rattle.words.specs.declared.Words.{Words}
