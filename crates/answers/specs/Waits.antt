@@ -6,7 +6,7 @@ use Prim.Native.Nat.{ℕ, _≤_}
 use Rattle.model.specs.Numbers.{lastProvider}
 use Rattle.systems.specs.Set.{member}
 use Rattle.model.specs.declared.Broadcast.{Broadcast}
-use Rattle.retries.specs.Octals.{Octals}
+use Rattle.answers.specs.Octals.{Octals}
 
 -- system p is waited for, and is in neither of the other sets
 pub record Waits (c : Broadcast) (p : ℕ) : Type 0 where

@@ -22,7 +22,7 @@ use Rattle.providers.specs.Providers.{fine, listed, entryOf}
 use Rattle.providers.proofs.Laws.{listed-says, listed-sound}
 use Rattle.books.specs.Packed.{bookBytes, rowPlaces, splitPlaces, headOf, codePlace, filterPlace, splitPlace, usedFrom, freeFrom}
 use Rattle.books.specs.Packed.{packedFrom, soundBytes}
-use Rattle.entries.specs.Good.{goodCode, goodFilter, goodRow}
+use Rattle.places.specs.Good.{goodCode, goodFilter, goodRow}
 use Rattle.soundbooks.specs.Scan.{chain, scan}
 use Rattle.soundbooks.proofs.Scanning.{scan-is}
 use Rattle.soundbooks.specs.Sound.{rowTest, splitTest}

@@ -19,7 +19,7 @@ use Rattle.books.specs.Packed.{usedFrom, packedFrom, soundBytes}
 use Rattle.books.specs.Places.{restOf}
 use Rattle.books.proofs.Places.{used-more, used-length}
 use Rattle.books.proofs.Filters.{filters-by-place}
-use Rattle.entries.specs.Good.{goodCode}
+use Rattle.places.specs.Good.{goodCode}
 use Rattle.soundbooks.specs.Scan.{chain, scan}
 use Rattle.soundbooks.proofs.Scanning.{scan-is, scan-next, scan-forgets}
 use Rattle.soundbooks.specs.Sound.{apartFrom, goodSplit, rowTest, splitTest}

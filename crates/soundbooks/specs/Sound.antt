@@ -8,7 +8,7 @@ use Rattle.model.specs.Numbers.{isCode}
 use Rattle.model.specs.Books.{unsplit}
 use Rattle.model.specs.declared.Marks.{Marks}
 use Rattle.books.specs.Packed.{splitOf}
-use Rattle.entries.specs.Good.{goodRow}
+use Rattle.places.specs.Good.{goodRow}
 use Rattle.soundbooks.specs.Scan.{Test}
 
 -- ---- the tests

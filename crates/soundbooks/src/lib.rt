@@ -21,10 +21,10 @@ fn apart(books: &[u8], one: u64, other: u64, i: usize) -> bool
         if (a == 0) & (b == 0) {
             return true;
         }
-        if entries::has_code(a, b, one) {
+        if places::entries::has_code(a, b, one) {
             return false;
         }
-        if entries::has_code(a, b, other) {
+        if places::entries::has_code(a, b, other) {
             return false;
         }
         k += 1;
@@ -40,8 +40,8 @@ fn good_split(books: &[u8], w: u64, i: usize) -> bool
     let one = w / 4294967296;
     let other = w % 4294967296;
     let clear = apart(books, one, other, i);
-    let known = entries::is_code(one);
-    let known_other = entries::is_code(other);
+    let known = places::entries::is_code(one);
+    let known_other = places::entries::is_code(other);
     (one != other) & clear & (known & known_other)
 }
 
@@ -56,9 +56,9 @@ fn sound_rows(filters: bool, marks: Marks, books: &[u8], at: usize) -> bool
     let mut i: usize = 0;
     while i < books::ROW_PLACES {
         if w == 0 {
-            return blanks::free_rows(books, at, i + 1);
+            return places::blanks::free_rows(books, at, i + 1);
         }
-        if !entries::good_row(filters, marks, last, w) {
+        if !places::entries::good_row(filters, marks, last, w) {
             return false;
         }
         last = w;
@@ -78,7 +78,7 @@ fn sound_splits(books: &[u8]) -> bool
         let w = octets::u64_at(books, books::SPLITS_AT + 8 * i);
         i += 1;
         if w == 0 {
-            return blanks::free(books, books::SPLITS_AT, books::SPLIT_PLACES, i);
+            return places::blanks::free(books, books::SPLITS_AT, books::SPLIT_PLACES, i);
         }
         if !good_split(books, w, i) {
             return false;
