@@ -1,5 +1,6 @@
 // How a broadcast hears a reply or a silence. Each promise is an equation with a definition of the model.
 pub mod retries;
+
 use model::Broadcast;
 use model::Event;
 use model::Version;

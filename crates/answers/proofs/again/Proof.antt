@@ -1,3 +1,4 @@
+-- `answers::again` meets its contract. Assumes nothing.
 use Rattle.model.specs.Answers.{again}
 use borrow.Author.Needs.{needs}
 use Rattle.answers.proofs.again.Statement.{statement}

@@ -1,3 +1,4 @@
+-- `answers::answering` meets its contract. Assumes nothing.
 use borrow.Author.Tests.{eq-eqb, ne-eqb}
 use Rattle.answers.proofs.answering.Statement.{statement}
 use Rattle.answers.proofs.answering.Tie as tie

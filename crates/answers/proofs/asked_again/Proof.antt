@@ -1,3 +1,4 @@
+-- `answers::asked_again` meets its contract. Assumes nothing.
 use borrow.Author.Needs.{needs}
 use Rattle.answers.proofs.asked_again.Statement.{statement}
 use Rattle.answers.proofs.asked_again.Tie as tie

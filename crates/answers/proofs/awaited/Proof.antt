@@ -1,3 +1,4 @@
+-- `answers::awaited` meets its contract. Assumes nothing.
 use borrow.Author.Needs.{needs}
 use Rattle.answers.proofs.awaited.Statement.{statement}
 use Rattle.answers.proofs.awaited.Tie as tie

@@ -1,3 +1,4 @@
+-- `answers::heard` meets its contract. Assumes nothing.
 use Rattle.model.specs.Answers.{heard}
 use borrow.Author.Needs.{needs}
 use Rattle.answers.proofs.heard.Statement.{statement}

@@ -1,3 +1,4 @@
+-- `answers::leaves` meets its contract. Assumes nothing.
 use borrow.Author.Needs.{needs}
 use Rattle.answers.proofs.leaves.Statement.{statement}
 use Rattle.answers.proofs.leaves.Tie as tie

@@ -1,3 +1,4 @@
+-- `answers::moved` meets its contract. Assumes nothing.
 use mathlib.Core.Path.{sym, _∙_}
 use Rattle.model.specs.Answers.{moved}
 use Rattle.answers.proofs.Arrive.{few-used}

@@ -1,3 +1,4 @@
+-- `batch::run` meets its contract. Assumes nothing.
 use denote.Ref.{now}
 use mathlib.Core.Path.{sym, _∙_}
 use native.Mathlib.Omega.{arith}

@@ -1,3 +1,4 @@
+-- `checks::books_check` meets its contract. Assumes nothing.
 use mathlib.Core.Path.{sym, ap}
 use mathlib.Core.Bool.{Bool, cond}
 use Rattle.checks.proofs.Checking.{checks}

@@ -1,3 +1,4 @@
+-- `closing::close_to` meets its contract. Assumes nothing.
 use Rattle.model.specs.Closing.{closeTo}
 use borrow.Author.Needs.{needs}
 use Rattle.closing.proofs.close_to.Statement.{statement}

@@ -1,3 +1,4 @@
+-- `closing::closed` meets its contract. Assumes nothing.
 use mathlib.Core.Bool.{or-false}
 use Rattle.model.specs.Closing.{closed}
 use borrow.Author.Needs.{needs}

@@ -1,3 +1,4 @@
+-- `closing::kept_purpose` meets its contract. Assumes nothing.
 use borrow.Author.Tests.{eq-eqb, ne-eqb}
 use Rattle.closing.proofs.kept_purpose.Statement.{statement}
 use Rattle.closing.proofs.kept_purpose.Tie as tie

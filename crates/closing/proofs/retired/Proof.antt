@@ -1,3 +1,4 @@
+-- `closing::retired` meets its contract. Assumes nothing.
 use mathlib.Core.Path.{refl}
 use Rattle.model.specs.Closing.{retired}
 use Rattle.closing.proofs.retired.Statement.{statement}

@@ -1,3 +1,4 @@
+-- `closing::settled` meets its contract. Assumes nothing.
 use Rattle.model.specs.Closing.{settled}
 use borrow.Author.Needs.{needs}
 use Rattle.closing.proofs.settled.Statement.{statement}

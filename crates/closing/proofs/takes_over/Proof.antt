@@ -1,3 +1,4 @@
+-- `closing::takes_over` meets its contract. Assumes nothing.
 use borrow.Author.Needs.{needs}
 use Rattle.closing.proofs.takes_over.Statement.{statement}
 use Rattle.closing.proofs.takes_over.Tie as tie

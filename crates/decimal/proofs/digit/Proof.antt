@@ -1,3 +1,4 @@
+-- `decimal::digit` meets its contract. Assumes nothing.
 use borrow.Author.Tests.{lt-ltb, le-ltb}
 use Rattle.decimal.proofs.digit.Statement.{statement}
 use Rattle.decimal.proofs.digit.Tie as tie

@@ -1,3 +1,4 @@
+-- `decimal::longer` meets its contract. Assumes nothing.
 use borrow.Author.Needs.{needs}
 use native.Mathlib.Omega.{arith}
 use Rattle.decimal.proofs.Spelling.{no-digit, no-room, put-behind}

@@ -1,3 +1,4 @@
+-- `fields::fits_bits` meets its contract. Assumes nothing.
 use mathlib.Core.Path.{refl}
 use Rattle.model.specs.Record.{fitsBits}
 use Rattle.fields.proofs.fits_bits.Statement.{statement}

@@ -1,3 +1,4 @@
+-- `fields::write` meets its contract. Assumes nothing.
 use mathlib.Core.Path.{sym}
 use denote.Ref.{now}
 use Rattle.fields.specs.Calls.{event}

@@ -1,3 +1,4 @@
+-- `judge::absent` meets its contract. Assumes nothing.
 use borrow.Author.Needs.{needs}
 use Rattle.judge.proofs.absent.Statement.{statement}
 use Rattle.judge.proofs.absent.Tie as tie

@@ -1,3 +1,4 @@
+-- `judge::another_due` meets its contract. Assumes nothing.
 use borrow.Author.Needs.{needs}
 use Rattle.judge.proofs.another_due.Statement.{statement}
 use Rattle.judge.proofs.another_due.Tie as tie

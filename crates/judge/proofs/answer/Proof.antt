@@ -1,3 +1,4 @@
+-- `judge::answer` meets its contract. Assumes nothing.
 use borrow.Author.Needs.{needs}
 use Rattle.judge.proofs.answer.Statement.{statement}
 use Rattle.judge.proofs.answer.Tie as tie

@@ -1,3 +1,4 @@
+-- `judge::busy` meets its contract. Assumes nothing.
 use borrow.Author.Needs.{needs}
 use Rattle.judge.proofs.busy.Statement.{statement}
 use Rattle.judge.proofs.busy.Tie as tie

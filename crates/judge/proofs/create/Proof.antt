@@ -1,3 +1,4 @@
+-- `judge::create` meets its contract. Assumes nothing.
 use Rattle.judge.specs.Judged.{createFor}
 use borrow.Author.Needs.{needs}
 use Rattle.judge.proofs.create.Statement.{statement}

@@ -1,3 +1,4 @@
+-- `judge::current` meets its contract. Assumes nothing.
 use borrow.Author.Needs.{needs}
 use Rattle.judge.proofs.current.Statement.{statement}
 use Rattle.judge.proofs.current.Tie as tie

@@ -1,3 +1,4 @@
+-- `judge::first` meets its contract. Assumes nothing.
 use Rattle.judge.proofs.first.Statement.{statement}
 use Rattle.judge.proofs.first.Tie as tie
 

@@ -1,3 +1,4 @@
+-- `judge::idle` meets its contract. Assumes nothing.
 use borrow.Author.Tests.{eq-eqb, ne-eqb}
 use borrow.Author.Needs.{needs}
 use Rattle.judge.proofs.idle.Statement.{statement}

@@ -1,3 +1,4 @@
+-- `judge::missing` meets its contract. Assumes nothing.
 use borrow.Author.Needs.{needs}
 use Rattle.judge.proofs.missing.Statement.{statement}
 use Rattle.judge.proofs.missing.Tie as tie

@@ -1,3 +1,4 @@
+-- `judge::other` meets its contract. Assumes nothing.
 use Rattle.judge.specs.Judged.{otherFor}
 use borrow.Author.Needs.{needs}
 use Rattle.judge.proofs.other.Statement.{statement}

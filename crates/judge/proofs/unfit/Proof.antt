@@ -1,3 +1,4 @@
+-- `judge::unfit` meets its contract. Assumes nothing.
 use borrow.Author.Needs.{needs}
 use Rattle.judge.proofs.unfit.Statement.{statement}
 use Rattle.judge.proofs.unfit.Tie as tie

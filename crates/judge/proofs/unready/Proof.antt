@@ -1,3 +1,4 @@
+-- `judge::unready` meets its contract. Assumes nothing.
 use mathlib.Core.Bool.{or-false}
 use borrow.Author.Tests.{eq-eqb, ne-eqb}
 use Rattle.model.specs.Standing.{unready}

@@ -1,3 +1,4 @@
+-- `kinds::modifies_active` meets its contract. Assumes nothing.
 use borrow.Author.Needs.{needs}
 use Rattle.kinds.proofs.modifies_active.Statement.{statement}
 use Rattle.kinds.proofs.modifies_active.Tie as tie

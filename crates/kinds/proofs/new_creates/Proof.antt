@@ -1,3 +1,4 @@
+-- `kinds::new_creates` meets its contract. Assumes nothing.
 use borrow.Author.Needs.{needs}
 use Rattle.kinds.proofs.new_creates.Statement.{statement}
 use Rattle.kinds.proofs.new_creates.Tie as tie

@@ -1,3 +1,4 @@
+-- `kinds::new_modifies` meets its contract. Assumes nothing.
 use borrow.Author.Needs.{needs}
 use Rattle.kinds.proofs.new_modifies.Statement.{statement}
 use Rattle.kinds.proofs.new_modifies.Tie as tie

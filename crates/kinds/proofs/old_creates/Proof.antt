@@ -1,3 +1,4 @@
+-- `kinds::old_creates` meets its contract. Assumes nothing.
 use borrow.Author.Needs.{needs}
 use Rattle.kinds.proofs.old_creates.Statement.{statement}
 use Rattle.kinds.proofs.old_creates.Tie as tie

@@ -1,3 +1,4 @@
+-- `kinds::old_modifies` meets its contract. Assumes nothing.
 use borrow.Author.Needs.{needs}
 use Rattle.kinds.proofs.old_modifies.Statement.{statement}
 use Rattle.kinds.proofs.old_modifies.Tie as tie

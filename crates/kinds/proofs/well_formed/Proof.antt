@@ -1,3 +1,4 @@
+-- `kinds::well_formed` meets its contract. Assumes nothing.
 use Rattle.model.specs.Record.{wellFormed}
 use borrow.Author.Needs.{needs}
 use Rattle.kinds.proofs.well_formed.Statement.{statement}

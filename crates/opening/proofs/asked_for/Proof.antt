@@ -1,3 +1,4 @@
+-- `opening::asked_for` meets its contract. Assumes nothing.
 use borrow.Author.Tests.{eq-eqb, ne-eqb}
 use Rattle.model.specs.Broadcast.{askedFor}
 use borrow.Author.Needs.{needs}

@@ -1,3 +1,4 @@
+-- `opening::confirmed_for` meets its contract. Assumes nothing.
 use borrow.Author.Tests.{eq-eqb, ne-eqb}
 use Rattle.opening.proofs.confirmed_for.Statement.{statement}
 use Rattle.opening.proofs.confirmed_for.Tie as tie

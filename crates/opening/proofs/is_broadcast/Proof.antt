@@ -1,3 +1,4 @@
+-- `opening::is_broadcast` meets its contract. Assumes nothing.
 use mathlib.Core.Bool.{or-false}
 use Rattle.opening.proofs.is_broadcast.Statement.{statement}
 use Rattle.opening.proofs.is_broadcast.Tie as tie

@@ -1,3 +1,4 @@
+-- `opening::opened` meets its contract. Assumes nothing.
 use Rattle.model.specs.Broadcast.{opened}
 use borrow.Author.Needs.{needs}
 use Rattle.opening.proofs.opened.Statement.{statement}

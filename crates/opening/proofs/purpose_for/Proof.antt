@@ -1,3 +1,4 @@
+-- `opening::purpose_for` meets its contract. Assumes nothing.
 use borrow.Author.Tests.{eq-eqb, ne-eqb}
 use Rattle.opening.proofs.purpose_for.Statement.{statement}
 use Rattle.opening.proofs.purpose_for.Tie as tie

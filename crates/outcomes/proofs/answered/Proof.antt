@@ -1,3 +1,4 @@
+-- `outcomes::answered` meets its contract. Assumes nothing.
 use borrow.Author.Needs.{needs}
 use Rattle.outcomes.proofs.answered.Statement.{statement}
 use Rattle.outcomes.proofs.answered.Tie as tie

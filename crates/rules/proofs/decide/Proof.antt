@@ -1,3 +1,4 @@
+-- `rules::decide` meets its contract. Assumes nothing.
 use mathlib.Core.Path.{sym, _∙_, subst}
 use Rattle.rules.specs.Rules.{Kept}
 use Rattle.rules.proofs.Deciding.{unknown-says}

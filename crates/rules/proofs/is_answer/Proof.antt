@@ -1,3 +1,4 @@
+-- `rules::is_answer` meets its contract. Assumes nothing.
 use mathlib.Core.Bool.{or-false}
 use Rattle.rules.proofs.is_answer.Statement.{statement}
 use Rattle.rules.proofs.is_answer.Tie as tie

@@ -1,3 +1,4 @@
+-- `rules::is_create` meets its contract. Assumes nothing.
 use mathlib.Core.Bool.{or-false}
 use Rattle.rules.proofs.is_create.Statement.{statement}
 use Rattle.rules.proofs.is_create.Tie as tie

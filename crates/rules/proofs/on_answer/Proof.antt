@@ -1,3 +1,4 @@
+-- `rules::on_answer` meets its contract. Assumes nothing.
 use Rattle.rules.proofs.Deciding.{refused-by, done-by, answer-judges, answer-says, answer-waits, row-purpose}
 use borrow.Author.Needs.{needs}
 use Rattle.rules.proofs.on_answer.Statement.{statement}

@@ -1,3 +1,4 @@
+-- `rules::on_create` meets its contract. Assumes nothing.
 use Rattle.rules.proofs.Deciding.{refused-by, done-by, create-judges, create-room, create-says}
 use borrow.Author.Needs.{needs}
 use Rattle.rules.proofs.on_create.Statement.{statement}

@@ -1,3 +1,4 @@
+-- `rules::on_other` meets its contract. Assumes nothing.
 use Rattle.rules.proofs.Deciding.{refused-by, done-by, other-judges, other-says, grid-asks, row-purpose}
 use borrow.Author.Needs.{needs}
 use Rattle.rules.proofs.on_other.Statement.{statement}

@@ -1,3 +1,4 @@
+-- `selection::larger` meets its contract. Assumes nothing.
 use borrow.Author.Tests.{lt-ltb, le-ltb}
 use Rattle.selection.proofs.larger.Statement.{statement}
 use Rattle.selection.proofs.larger.Tie as tie

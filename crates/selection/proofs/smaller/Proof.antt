@@ -1,3 +1,4 @@
+-- `selection::smaller` meets its contract. Assumes nothing.
 use Rattle.selection.proofs.smaller.Statement.{statement}
 use Rattle.selection.proofs.smaller.Tie as tie
 

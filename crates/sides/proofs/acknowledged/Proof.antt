@@ -1,3 +1,4 @@
+-- `sides::acknowledged` meets its contract. Assumes nothing.
 use Rattle.model.specs.Changes.{acknowledged}
 use borrow.Author.Needs.{needs}
 use Rattle.sides.proofs.acknowledged.Statement.{statement}

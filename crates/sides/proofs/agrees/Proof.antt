@@ -1,3 +1,4 @@
+-- `sides::agrees` meets its contract. Assumes nothing.
 use borrow.Author.Needs.{needs}
 use Rattle.sides.proofs.agrees.Statement.{statement}
 use Rattle.sides.proofs.agrees.Tie as tie

@@ -1,3 +1,4 @@
+-- `sides::cancelled` meets its contract. Assumes nothing.
 use native.Mathlib.Numerals.{add-one}
 use Rattle.model.specs.Changes.{cancelled}
 use borrow.Author.Needs.{needs}

@@ -1,3 +1,4 @@
+-- `sides::concurred` meets its contract. Assumes nothing.
 use Rattle.model.specs.Creates.{concurred}
 use borrow.Author.Needs.{needs}
 use Rattle.sides.proofs.concurred.Statement.{statement}

@@ -1,3 +1,4 @@
+-- `sides::first_due` meets its contract. Assumes nothing.
 use borrow.Author.Tests.{eq-eqb, ne-eqb}
 use Rattle.sides.proofs.first_due.Statement.{statement}
 use Rattle.sides.proofs.first_due.Tie as tie

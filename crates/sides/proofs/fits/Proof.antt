@@ -1,3 +1,4 @@
+-- `sides::fits` meets its contract. Assumes nothing.
 use Rattle.model.specs.Creates.{fits}
 use borrow.Author.Needs.{needs}
 use Rattle.sides.proofs.fits.Statement.{statement}

@@ -1,3 +1,4 @@
+-- `sides::fresh` meets its contract. Assumes nothing.
 use borrow.Author.Needs.{needs}
 use Rattle.sides.proofs.fresh.Statement.{statement}
 use Rattle.sides.proofs.fresh.Tie as tie

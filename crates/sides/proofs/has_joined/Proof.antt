@@ -1,3 +1,4 @@
+-- `sides::has_joined` meets its contract. Assumes nothing.
 use borrow.Author.Tests.{eq-eqb, ne-eqb}
 use Rattle.sides.proofs.has_joined.Statement.{statement}
 use Rattle.sides.proofs.has_joined.Tie as tie

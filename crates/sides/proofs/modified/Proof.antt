@@ -1,3 +1,4 @@
+-- `sides::modified` meets its contract. Assumes nothing.
 use borrow.Author.Tests.{eq-eqb, ne-eqb}
 use Rattle.model.specs.Changes.{newModified, oldModified}
 use borrow.Author.Needs.{needs}

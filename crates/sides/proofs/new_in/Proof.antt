@@ -1,3 +1,4 @@
+-- `sides::new_in` meets its contract. Assumes nothing.
 use borrow.Author.Tests.{eq-eqb, ne-eqb}
 use Rattle.sides.proofs.new_in.Statement.{statement}
 use Rattle.sides.proofs.new_in.Tie as tie

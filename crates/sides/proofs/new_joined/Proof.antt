@@ -1,3 +1,4 @@
+-- `sides::new_joined` meets its contract. Assumes nothing.
 use borrow.Author.Tests.{eq-eqb, ne-eqb}
 use Rattle.sides.proofs.new_joined.Statement.{statement}
 use Rattle.sides.proofs.new_joined.Tie as tie

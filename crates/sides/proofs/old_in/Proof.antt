@@ -1,3 +1,4 @@
+-- `sides::old_in` meets its contract. Assumes nothing.
 use borrow.Author.Tests.{eq-eqb, ne-eqb}
 use Rattle.sides.proofs.old_in.Statement.{statement}
 use Rattle.sides.proofs.old_in.Tie as tie

@@ -1,3 +1,4 @@
+-- `sides::own_cancel` meets its contract. Assumes nothing.
 use native.Mathlib.Numerals.{add-one}
 use Rattle.model.specs.Changes.{ownCancel}
 use borrow.Author.Needs.{needs}

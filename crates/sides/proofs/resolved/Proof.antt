@@ -1,3 +1,4 @@
+-- `sides::resolved` meets its contract. Assumes nothing.
 use mathlib.Core.Path.{refl}
 use Rattle.model.specs.Changes.{resolved}
 use Rattle.sides.proofs.resolved.Statement.{statement}

@@ -1,3 +1,4 @@
+-- `sides::standing_of` meets its contract. Assumes nothing.
 use Rattle.model.specs.Standing.{standingOf}
 use borrow.Author.Needs.{needs}
 use Rattle.sides.proofs.standing_of.Statement.{statement}

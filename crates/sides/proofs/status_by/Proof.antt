@@ -1,3 +1,4 @@
+-- `sides::status_by` meets its contract. Assumes nothing.
 use borrow.Author.Tests.{eq-eqb, ne-eqb}
 use Rattle.sides.proofs.status_by.Statement.{statement}
 use Rattle.sides.proofs.status_by.Tie as tie

@@ -1,3 +1,4 @@
+-- `sides::status_of` meets its contract. Assumes nothing.
 use borrow.Author.Tests.{eq-eqb, ne-eqb}
 use Rattle.sides.proofs.status_of.Statement.{statement}
 use Rattle.sides.proofs.status_of.Tie as tie

@@ -1,3 +1,4 @@
+-- `sides::window_marked` meets its contract. Assumes nothing.
 use Rattle.model.specs.Changes.{windowMarked}
 use borrow.Author.Needs.{needs}
 use Rattle.sides.proofs.window_marked.Statement.{statement}

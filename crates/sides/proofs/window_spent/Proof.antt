@@ -1,3 +1,4 @@
+-- `sides::window_spent` meets its contract. Assumes nothing.
 use Rattle.model.specs.Changes.{windowSpent}
 use borrow.Author.Needs.{needs}
 use Rattle.sides.proofs.window_spent.Statement.{statement}

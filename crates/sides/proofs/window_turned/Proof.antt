@@ -1,3 +1,4 @@
+-- `sides::window_turned` meets its contract. Assumes nothing.
 use borrow.Author.Tests.{eq-eqb, ne-eqb}
 use Rattle.model.specs.Changes.{windowTurned}
 use borrow.Author.Needs.{needs}

@@ -1,3 +1,4 @@
+-- `sides::withdrawn_to` meets its contract. Assumes nothing.
 use borrow.Author.Tests.{eq-eqb, ne-eqb}
 use Rattle.sides.proofs.withdrawn_to.Statement.{statement}
 use Rattle.sides.proofs.withdrawn_to.Tie as tie

@@ -1,3 +1,4 @@
+-- `step::events` meets its contract. Assumes nothing.
 use borrow.Author.Needs.{needs}
 -- The measure is how many places are left; table and tray keep their lengths.
 -- Assumes nothing.

@@ -1,3 +1,4 @@
+-- `systems::has` meets its contract. Assumes nothing.
 use borrow.Author.Needs.{needs}
 use mathlib.Core.Path.{refl, sym}
 use native.Mathlib.Omega.{arith}

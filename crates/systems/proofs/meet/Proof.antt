@@ -1,3 +1,4 @@
+-- `systems::meet` meets its contract. Assumes nothing.
 use native.Mathlib.Omega.{arith}
 use lib.Bits.{and-le-l}
 use Rattle.systems.proofs.Laws.{meet-and}

@@ -1,3 +1,4 @@
+-- `systems::size` meets its contract. Assumes nothing.
 use Rattle.systems.proofs.Laws.{count-ones}
 use Rattle.systems.proofs.size.Statement.{statement}
 use Rattle.systems.proofs.size.Tie as tie

@@ -1,3 +1,4 @@
+-- `systems::with` meets its contract. Assumes nothing.
 use borrow.Author.Needs.{needs}
 use Rattle.systems.proofs.Laws.{out-fits}
 use Rattle.systems.proofs.with.Statement.{statement}

@@ -1,3 +1,4 @@
+-- `systems::without` meets its contract. Assumes nothing.
 use borrow.Author.Needs.{needs}
 use Rattle.systems.proofs.Laws.{in-le}
 use Rattle.systems.proofs.without.Statement.{statement}

@@ -1,3 +1,4 @@
+-- `retries::digit` meets its contract. Assumes nothing.
 use borrow.Author.Needs.{needs}
 use mathlib.Core.Path.{refl}
 use native.Mathlib.Nat.{mod-lt}

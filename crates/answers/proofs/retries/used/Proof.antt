@@ -1,3 +1,4 @@
+-- `retries::used` meets its contract. Assumes nothing.
 use borrow.Author.Needs.{needs}
 use borrow.Author.Tests.{le-leb, lt-leb}
 use Rattle.model.specs.Retries.{used}

@@ -1,3 +1,4 @@
+-- `retries::with_digit` meets its contract. Assumes nothing.
 use borrow.Author.Needs.{needs}
 use Rattle.answers.proofs.Shifts.{old-part, sum-fits, put-is}
 use Rattle.answers.proofs.retries.with_digit.Statement.{statement}

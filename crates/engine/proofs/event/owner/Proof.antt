@@ -1,3 +1,4 @@
+-- `event::owner` meets its contract. Assumes nothing.
 use mathlib.Core.Path.{sym, ap, _∙_}
 use Rattle.model.specs.Books.{ownerOf}
 use Rattle.model.proofs.Lists.{clash}

@@ -1,3 +1,4 @@
+-- `event::selected` meets its contract. Assumes nothing.
 use mathlib.Core.Path.{sym, _∙_}
 use Rattle.model.proofs.Lists.{clash}
 use Rattle.engine.proofs.Deciding.{selected-is, the-seen, none-seen}

@@ -1,3 +1,4 @@
+-- `step::on_fitting` meets its contract. Assumes nothing.
 use denote.Ref.{now}
 use mathlib.Core.Path.{sym, _∙_}
 use Rattle.engine.proofs.Stepping.{fit-all, fit-rule, fit-malformed, did-is, did-malformed}

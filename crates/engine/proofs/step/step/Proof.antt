@@ -1,3 +1,4 @@
+-- `step::step` meets its contract. Assumes nothing.
 use denote.Ref.{now}
 use mathlib.Core.Path.{sym, ap}
 use Rattle.providers.specs.declared.Listed.{Listed}

@@ -1,3 +1,4 @@
+-- `step::step_listed` meets its contract. Assumes nothing.
 use denote.Ref.{now}
 use mathlib.Core.Path.{refl, sym, _∙_}
 use Rattle.checks.proofs.Lending.{lent-table}

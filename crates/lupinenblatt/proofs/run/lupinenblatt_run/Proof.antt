@@ -1,3 +1,4 @@
+-- `run::lupinenblatt_run` meets its contract. Assumes nothing.
 use denote.Ref.{now}
 use mathlib.Core.Path.{refl}
 use native.Mathlib.Omega.{arith}

@@ -1,3 +1,4 @@
+-- `step::lupinenblatt_step` meets its contract. Assumes nothing.
 use mathlib.Core.Path.{refl}
 use denote.Ref.{now}
 use borrow.Author.Tests.{lt-leb}

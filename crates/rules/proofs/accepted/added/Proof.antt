@@ -1,3 +1,4 @@
+-- `accepted::added` meets its contract. Assumes nothing.
 use Rattle.rules.proofs.Ruled.{one-told}
 use borrow.Author.Needs.{needs}
 use Rattle.rules.proofs.accepted.added.Statement.{statement}

@@ -1,3 +1,4 @@
+-- `accepted::answer_mail` meets its contract. Assumes nothing.
 use Rattle.model.specs.Closing.{settlingTold}
 use borrow.Author.Needs.{needs}
 use Rattle.rules.proofs.accepted.answer_mail.Statement.{statement}

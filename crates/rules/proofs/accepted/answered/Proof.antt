@@ -1,3 +1,4 @@
+-- `accepted::answered` meets its contract. Assumes nothing.
 use Rattle.rules.proofs.Ruled.{answered-says}
 use borrow.Author.Needs.{needs}
 use Rattle.rules.proofs.accepted.answered.Statement.{statement}

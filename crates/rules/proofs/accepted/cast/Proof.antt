@@ -1,3 +1,4 @@
+-- `accepted::cast` meets its contract. Assumes nothing.
 use mathlib.Core.Path.{sym, _∙_}
 use Rattle.rules.proofs.Ruled.{cast-asks, cast-closes}
 use borrow.Author.Needs.{needs}

@@ -1,3 +1,4 @@
+-- `accepted::created` meets its contract. Assumes nothing.
 use mathlib.Core.Path.{ap}
 use native.Mathlib.Omega.{arith}
 use Rattle.table.specs.Survey.{theOne}

@@ -1,3 +1,4 @@
+-- `accepted::is_modify` meets its contract. Assumes nothing.
 use mathlib.Core.Bool.{or-false}
 use Rattle.rules.proofs.accepted.is_modify.Statement.{statement}
 use Rattle.rules.proofs.accepted.is_modify.Tie as tie

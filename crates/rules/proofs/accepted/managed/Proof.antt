@@ -1,3 +1,4 @@
+-- `accepted::managed` meets its contract. Assumes nothing.
 use Rattle.rules.proofs.Ruled.{managed-cancel, managed-acknowledge, managed-resolve, managed-window}
 use borrow.Author.Needs.{needs}
 use Rattle.rules.proofs.accepted.managed.Statement.{statement}

@@ -1,3 +1,4 @@
+-- `accepted::plain` meets its contract. Assumes nothing.
 use mathlib.Core.Path.{sym, _∙_}
 use Rattle.rules.proofs.Ruled.{managed-modify, managed-cast, managed-purge, opened-few}
 use borrow.Author.Needs.{needs}

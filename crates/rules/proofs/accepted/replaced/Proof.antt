@@ -1,3 +1,4 @@
+-- `accepted::replaced` meets its contract. Assumes nothing.
 use borrow.Author.Needs.{needs}
 use Rattle.rules.proofs.accepted.replaced.Statement.{statement}
 use Rattle.rules.proofs.accepted.replaced.Tie as tie

@@ -1,3 +1,4 @@
+-- `accepted::restated` meets its contract. Assumes nothing.
 use borrow.Author.Tests.{eq-eqb, ne-eqb}
 use Rattle.rules.proofs.Ruled.{one-told, two-told}
 use borrow.Author.Needs.{needs}

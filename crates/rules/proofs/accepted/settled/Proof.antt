@@ -1,3 +1,4 @@
+-- `accepted::settled` meets its contract. Assumes nothing.
 use mathlib.Core.Path.{sym, _∙_}
 use Rattle.rules.proofs.Ruled.{settled-alone, settled-over}
 use borrow.Author.Needs.{needs}

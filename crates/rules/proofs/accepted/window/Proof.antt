@@ -1,3 +1,4 @@
+-- `accepted::window` meets its contract. Assumes nothing.
 use mathlib.Core.Path.{sym, _∙_}
 use Rattle.rules.proofs.Ruled.{window-marks, window-turns}
 use borrow.Author.Needs.{needs}

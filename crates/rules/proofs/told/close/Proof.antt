@@ -1,3 +1,4 @@
+-- `told::close` meets its contract. Assumes nothing.
 use borrow.Author.Tests.{eq-eqb, ne-eqb}
 use Rattle.rules.proofs.Ruled.{close-sides, close-side}
 use borrow.Author.Needs.{needs}

@@ -1,3 +1,4 @@
+-- `told::side` meets its contract. Assumes nothing.
 use borrow.Author.Needs.{needs}
 use Rattle.rules.proofs.told.side.Statement.{statement}
 use Rattle.rules.proofs.told.side.Tie as tie

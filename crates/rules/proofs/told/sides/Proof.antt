@@ -1,3 +1,4 @@
+-- `told::sides` meets its contract. Assumes nothing.
 use borrow.Author.Needs.{needs}
 use Rattle.rules.proofs.told.sides.Statement.{statement}
 use Rattle.rules.proofs.told.sides.Tie as tie

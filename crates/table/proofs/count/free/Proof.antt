@@ -1,3 +1,4 @@
+-- `count::free` meets its contract. Assumes nothing.
 use mathlib.Core.Path.{ap, _∙_}
 use Rattle.words.specs.Codec.{isBlank}
 use borrow.Author.Needs.{needs}
