@@ -3,6 +3,7 @@ use faults::Fault;
 use faults::Found;
 use model::Marks;
 use model::limit;
+use places::entries;
 ghost use mathlib.Core.Path.{_≡_};
 ghost use Prim.Native.Nat.{_<_, _≤_};
 ghost use lib.ListN.{length};
@@ -60,7 +61,7 @@ fn code(marks: Marks, i: u64, last: u64, w: u64) -> Found
 {
     let f = faults::unless(!((0 < i) & (w / 64 <= last / 64)), 8, i, faults::fine());
     let f = faults::unless(here(marks, w % 64), 7, 0, f);
-    let f = faults::unless(places::entries::is_code(w / 64), 6, 0, f);
+    let f = faults::unless(entries::is_code(w / 64), 6, 0, f);
     faults::unless(!((0 < i) & (last == 0)), 5, i, f)
 }
 
@@ -69,7 +70,7 @@ fn filter(marks: Marks, i: u64, last: u64, w: u64) -> Found
     ensures { λ r. ⌜ r ≡ firstBroken (filterClauses marks i last w) (foundAt 0 0) ⌝ }
 {
     let f = faults::unless(!((0 < i) & (w <= last)), 12, i, faults::fine());
-    let f = faults::unless(places::entries::is_code(w % 1048576), 11, 0, f);
+    let f = faults::unless(entries::is_code(w % 1048576), 11, 0, f);
     let f = faults::unless(here(marks, w / 1048576), 10, 0, f);
     faults::unless(!((0 < i) & (last == 0)), 9, i, f)
 }
@@ -80,8 +81,8 @@ fn meets(u: u64, w: u64) -> bool
 {
     let one = w / 4294967296;
     let other = w % 4294967296;
-    let first = places::entries::has_code(one, other, u / 4294967296);
-    let second = places::entries::has_code(one, other, u % 4294967296);
+    let first = entries::has_code(one, other, u / 4294967296);
+    let second = entries::has_code(one, other, u % 4294967296);
     first | second
 }
 
@@ -107,8 +108,8 @@ fn pair(other: u64, i: u64, last: u64, w: u64) -> Found
 {
     let one = w / 4294967296;
     let two = w % 4294967296;
-    let first = places::entries::is_code(one);
-    let second = places::entries::is_code(two);
+    let first = entries::is_code(one);
+    let second = entries::is_code(two);
     let f = faults::unless(other == 0, 16, other, faults::fine());
     let f = faults::unless(one != two, 15, 0, f);
     let f = faults::unless(first & second, 14, 0, f);

@@ -8,6 +8,8 @@ ghost use Rattle.books.specs.Places.{restOf};
 ghost use Rattle.soundbooks.specs.Scan.{scan};
 ghost use Rattle.soundbooks.specs.Sound.{rowTest, apartFrom, goodSplit, splitTest};
 use model::Marks;
+use places::blanks;
+use places::entries;
 
 // Whether neither code stands in a pair from place i on.
 fn apart(books: &[u8], one: u64, other: u64, i: usize) -> bool
@@ -21,10 +23,10 @@ fn apart(books: &[u8], one: u64, other: u64, i: usize) -> bool
         if (a == 0) & (b == 0) {
             return true;
         }
-        if places::entries::has_code(a, b, one) {
+        if entries::has_code(a, b, one) {
             return false;
         }
-        if places::entries::has_code(a, b, other) {
+        if entries::has_code(a, b, other) {
             return false;
         }
         k += 1;
@@ -40,8 +42,8 @@ fn good_split(books: &[u8], w: u64, i: usize) -> bool
     let one = w / 4294967296;
     let other = w % 4294967296;
     let clear = apart(books, one, other, i);
-    let known = places::entries::is_code(one);
-    let known_other = places::entries::is_code(other);
+    let known = entries::is_code(one);
+    let known_other = entries::is_code(other);
     (one != other) & clear & (known & known_other)
 }
 
@@ -56,9 +58,9 @@ fn sound_rows(filters: bool, marks: Marks, books: &[u8], at: usize) -> bool
     let mut i: usize = 0;
     while i < books::ROW_PLACES {
         if w == 0 {
-            return places::blanks::free_rows(books, at, i + 1);
+            return blanks::free_rows(books, at, i + 1);
         }
-        if !places::entries::good_row(filters, marks, last, w) {
+        if !entries::good_row(filters, marks, last, w) {
             return false;
         }
         last = w;
@@ -78,7 +80,7 @@ fn sound_splits(books: &[u8]) -> bool
         let w = octets::u64_at(books, books::SPLITS_AT + 8 * i);
         i += 1;
         if w == 0 {
-            return places::blanks::free(books, books::SPLITS_AT, books::SPLIT_PLACES, i);
+            return blanks::free(books, books::SPLITS_AT, books::SPLIT_PLACES, i);
         }
         if !good_split(books, w, i) {
             return false;
