@@ -1,25 +1,25 @@
 -- The rules over the bytes: the facts that they are told, and that their verdict can be carried out and is what the model says.
 -- Assumes nothing.
 use mathlib.Core.Path.{_≡_, refl, sym, ap, ap₂, _∙_, subst}
-use Prim.Native.Nat.{ℕ, _^_, _<_, _≤_}
+use Prim.Native.Nat.{ℕ, _<_, _≤_}
 use native.Mathlib.Omega.{arith}
 use mathlib.Core.Bool.{Bool, true, false, cond}
 use mathlib.Core.Option.{some}
-use mathlib.Core.List.{List, [], _∷_}
+use mathlib.Core.List.{List, _∷_}
 use lib.Dec.{eqb, ltb}
 use lib.ListN.{length}
 use borrow.Author.Tests.{eqb-true, ltb-true, le-leb}
 use Rattle.model.specs.Basics.{All, none as nothing, with}
 use Rattle.systems.specs.Set.{maskOf}
-use Rattle.model.specs.Numbers.{tenDigits, codeOf}
+use Rattle.model.specs.Numbers.{codeOf}
 use Rattle.model.specs.Selection.{selects, selectedFor}
 use Rattle.model.specs.Table.{Change, changes}
 use Rattle.model.specs.Sound.{numbered, soundLines}
-use Rattle.model.specs.Record.{isCreate, isBroadcast, wellFormed, fitsBits, kindFits, named}
+use Rattle.model.specs.Record.{isCreate, isBroadcast, wellFormed}
 use Rattle.model.specs.Outcomes.{isDone, numberOf}
 use Rattle.model.specs.Given.{Given, Result, withNumber}
 use Rattle.model.specs.Step.{rule}
-use Rattle.model.proofs.Lists.{clash, nothing-some, keep-same, all-keep, all-first, conj-at, head-of}
+use Rattle.model.proofs.Lists.{clash, nothing-some, keep-same, all-keep, all-first, head-of}
 use Rattle.model.proofs.TableLaws.{rising-part}
 use Rattle.model.proofs.Apart.{rows-rows}
 use Rattle.model.proofs.Effects.{Modest, modest-rule}
@@ -59,16 +59,6 @@ use Rattle.model.specs.declared.Event.{Event}
 use Rattle.model.specs.declared.Marks.{Marks}
 use Rattle.model.specs.declared.Message.{Message}
 use Rattle.model.specs.declared.Version.{Version}
-
--- a TN fits its 34 bits
-pub tn-small : (e : Event) → wellFormed e ≡ true → e .tn .0 < 2 ^ 34
-unfolding wellFormed fitsBits
-tn-small e h =
-    let bits : List Bool =
-    ltb (e .kind) (2 ^ 8) ∷ ltb (e .sender) (2 ^ 6) ∷ ltb (e .other) (2 ^ 6) ∷ ltb (e .mark) (2 ^ 2) ∷ ltb (e .cause) (2 ^ 8) ∷ ltb
-    (e .tn .0) (2 ^ 34)
-    ∷ ltb (e .lrn .0) (2 ^ 34) ∷ ltb (e .version) (2 ^ 16) ∷ ltb (e .time) (2 ^ 32) ∷ ltb (e .due) (2 ^ 32) ∷ [] in
-    ltb-true (e .tn .0) (2 ^ 34) (conj-at bits (conj-at (fitsBits e ∷ tenDigits (e .tn .0) ∷ named (e .time) ∷ kindFits e ∷ []) h 0) 5)
 
 -- ---- over a sound table
 module _ (m : Marks) (b : List ℕ) (most : ℕ) (t : List ℕ) (n : ℕ) (e : Event) (few : most ≤ 7) (st : SoundTable t n)

@@ -18,6 +18,7 @@ pub record Fields (e : Event) : Type 0 where
   pub sender : e .sender < 64
   pub other : e .other < 64
   pub cause : e .cause < 256
+  pub tn : e .tn .0 < 2 ^ 34
   pub time : e .time < 2 ^ 32
   pub due : e .due < 2 ^ 32
   pub timed : 0 < e .time
@@ -41,8 +42,8 @@ module _ (e : Event) (h : wellFormed e ≡ true) where
   unfolding wellFormed fitsBits
   fields =
       let all : List Bool = fitsBits e ∷ tenDigits (e .tn .0) ∷ named (e .time) ∷ kindFits e ∷ [] in
-      let bits : List Bool = ltb (e .kind) (2 ^ 8) ∷ ltb (e .sender) (2 ^ 6) ∷ ltb (e .other) (2 ^ 6) ∷ ltb (e .mark) (2 ^ 2)
-      ∷ ltb (e .cause) (2 ^ 8)
+      let bits : List Bool =
+      ltb (e .kind) (2 ^ 8) ∷ ltb (e .sender) (2 ^ 6) ∷ ltb (e .other) (2 ^ 6) ∷ ltb (e .mark) (2 ^ 2) ∷ ltb (e .cause) (2 ^ 8)
       ∷ ltb (e .tn .0) (2 ^ 34) ∷ ltb (e .lrn .0) (2 ^ 34) ∷ ltb (e .version) (2 ^ 16) ∷ ltb (e .time) (2 ^ 32)
       ∷ ltb (e .due) (2 ^ 32) ∷ [] in
       let of : (i : ℕ) → getD all i true ≡ true = conj-at all h in
@@ -51,6 +52,7 @@ module _ (e : Event) (h : wellFormed e ≡ true) where
         sender = ltb-true (e .sender) (2 ^ 6) (bit 1);
         other = ltb-true (e .other) (2 ^ 6) (bit 2);
         cause = ltb-true (e .cause) (2 ^ 8) (bit 4);
+        tn = ltb-true (e .tn .0) (2 ^ 34) (bit 5);
         time = ltb-true (e .time) (2 ^ 32) (bit 8);
         due = ltb-true (e .due) (2 ^ 32) (bit 9);
         timed = ltb-true 0 (e .time) (of 2);

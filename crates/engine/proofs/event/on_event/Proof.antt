@@ -1,7 +1,8 @@
 -- `engine::event::on_event` meets its contract: s is the start, f the survey, k what the books say, d the verdict.
 -- Assumes nothing.
+use Rattle.model.proofs.Formed.{fields}
 use Rattle.books.proofs.Given.{sound-length, sound-splits}
-use Rattle.engine.proofs.Deciding.{tn-small, decide-asks, may-apply, may-deliver, did}
+use Rattle.engine.proofs.Deciding.{decide-asks, may-apply, may-deliver, did}
 use borrow.Author.Needs.{needs}
 use Rattle.engine.proofs.event.on_event.Statement.{statement}
 use Rattle.engine.proofs.event.on_event.Tie as tie
@@ -10,7 +11,7 @@ surveyed-requires : tie.Need-surveyed-requires
 surveyed-requires c κs =
     let s = c .before .before .before .before in
     let r = s .pre .1 .0 in
-    (s .pre .0, (sound-length _ _ (r .sound), sound-splits _ _ (r .sound), tn-small (s .args .e) (r .formed)))
+    (s .pre .0, (sound-length _ _ (r .sound), sound-splits _ _ (r .sound), fields (s .args .e) (r .formed) .tn))
 
 known-requires : tie.Need-known-requires
 known-requires c κs = search needs
