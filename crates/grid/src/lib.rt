@@ -2,7 +2,7 @@
 ghost use mathlib.Core.Path.{_≡_};
 ghost use mathlib.Core.Bool.{true};
 ghost use Prim.Native.Nat.{_<_, _≤_};
-ghost use Rattle.model.specs.Sound.{canceled};
+ghost use Rattle.model.specs.Sound.{lastStatus};
 ghost use Rattle.model.specs.Standing.{gridRule, gridPlace, isGridKind};
 use model::kind;
 use model::standing;
@@ -322,7 +322,7 @@ fn place_of(kind: u8) -> usize
 
 // What the grid says: 0, 6 or 7. Standing 0 is the new side, 1 the old side, 2 the NPAC; any other gets 6.
 pub fn grid(status: u8, kind: u8, standing: u8) -> u8
-    requires { ⌜ (status ≤ canceled) × (isGridKind kind ≡ true) ⌝ }
+    requires { ⌜ (status ≤ lastStatus) × (isGridKind kind ≡ true) ⌝ }
     ensures { λ r. ⌜ r ≡ gridRule status kind standing ⌝ }
 {
     if standing::OTHER <= standing {

@@ -12,7 +12,7 @@ ghost use mathlib.Core.Path.{_≡_};
 ghost use mathlib.Core.Bool.{true, false, cond, not, _&&_, _||_};
 ghost use mathlib.Core.List.{[], _∷_};
 ghost use Prim.Native.Nat.{_≤_};
-ghost use Rattle.model.specs.Sound.{canceled};
+ghost use Rattle.model.specs.Sound.{lastStatus};
 ghost use lib.Dec.{eqb, ltb, leb};
 ghost use Rattle.model.specs.Basics.{among, holds, isNone};
 ghost use Rattle.model.specs.Standing.{isGridKind, unready, lacksStanding, wrongStatus};
@@ -167,7 +167,7 @@ fn idle(e: Event, v: Version) -> bool
 }
 
 pub fn other(e: Event, absent: bool, f: Facts, v: Version) -> Outcome
-    requires { ⌜ (v .status ≤ canceled) × (isGridKind (e .kind) ≡ true) ⌝ }
+    requires { ⌜ (v .status ≤ lastStatus) × (isGridKind (e .kind) ≡ true) ⌝ }
     ensures { λ r. ⌜ r ≡ otherFor e absent f v ⌝ }
 {
     let standing = sides::standing_of(e, v);

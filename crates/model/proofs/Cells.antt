@@ -8,7 +8,7 @@ use native.Mathlib.Omega.{arith}
 use borrow.Author.Tests.{lt-ltb, le-ltb, leb-true, lt-leb, ne-eqb}
 use lib.Dec.{eqb, eqb→eq, leb}
 use lib.ListN.{length, getD}
-use Rattle.model.specs.Sound.{canceled}
+use Rattle.model.specs.Sound.{lastStatus}
 use Rattle.model.specs.Standing.{gridRule, isGridKind, gridPlace, kindAt, statusFor}
 use Rattle.model.specs.Basics.{among}
 use Rattle.model.proofs.Lists.{clash}
@@ -41,7 +41,7 @@ by-entry : (i : ℕ) → i < 297 → getD cells i 0 ≡ ruleAt i
 unfolding cells right ruleAt gridRule
 by-entry i h = eqb→eq (getD cells i 0) (ruleAt i) (at right cells tt i h)
 
-pub by-place : (s j t : ℕ) → s ≤ canceled → j < 11 → t < 3 → getD cells ((s * 11 + j) * 3 + t) 0 ≡ gridRule s (kindAt j) t
+pub by-place : (s j t : ℕ) → s ≤ lastStatus → j < 11 → t < 3 → getD cells ((s * 11 + j) * 3 + t) 0 ≡ gridRule s (kindAt j) t
 unfolding ruleAt
 by-place s j t hs hj ht =
     let a : ((s * 11 + j) * 3 + t) / 33 ≡ s = omega arith in

@@ -9,7 +9,7 @@ use borrow.Author.Tests.{eqb-true, not-false}
 use Rattle.model.specs.Versions.{recast, repurposed}
 use Rattle.model.specs.Basics.{among, iff, implies}
 use Rattle.model.specs.Numbers.{isTime}
-use Rattle.model.specs.Sound.{conflict, cancelPending, sending, failure, partialFailure, active, old, isWorked, isSending}
+use Rattle.model.specs.Sound.{conflict, cancelPending, sending, failure, partialFailure, active, old, isWorked, isSending, needsNew, isStatus}
 use Rattle.model.specs.Sound.{isPurposed, activate, sidesDiffer, newWhole, oldWhole, sidesNeeded, causeFits, setsApart, retriesFit}
 use Rattle.model.specs.Sound.{liveConfirmed, sends}
 use Rattle.model.specs.Closing.{open?, closeBy, closeTo, closed, retired}
@@ -58,7 +58,7 @@ row-open w c o = record {
       at-sending
       (λ (s : ℕ).
       (implies (eqb s conflict) (w .old .created) && implies (eqb s cancelPending) (w .new .created && w .old .created)
-      && implies (isPurposed s || eqb s old) (w .new .created))
+      && implies (needsNew s) (w .new .created))
       ≡ true)
       (w .status) (c .sending) (c .created);
   cause = c .cause;
@@ -81,7 +81,7 @@ row-open w c o = record {
 
 -- what the status at the close brings, by: nobody failed (a), nobody confirmed (b), the purpose is activate
 pub record AtClose (s : ℕ) (a b act : Bool) : Type 0 where
-  pub small : leb s 8 ≡ true
+  pub small : isStatus s ≡ true
   pub not-sending : isSending s ≡ false
   pub not-worked : isWorked s ≡ false
   pub no1 : eqb s conflict ≡ false
@@ -117,7 +117,7 @@ close-kept s a b act m f k = go (eqb s 4) refl (eqb s 5) refl (eqb s 6) refl
     at : (n : ℕ) → eqb s n ≡ true → AtClose n a b act → AtClose s a b act
     at n e r = subst (λ (j : ℕ). AtClose j a b act) (sym (eqb-true s n e)) r
 
-    kept : (n : ℕ) → eqb s n ≡ true → eqb n old ≡ false → leb n 8 ≡ true → isSending n ≡ false → isWorked n ≡ false → eqb n conflict ≡ false
+    kept : (n : ℕ) → eqb s n ≡ true → eqb n old ≡ false → isStatus n ≡ true → isSending n ≡ false → isWorked n ≡ false → eqb n conflict ≡ false
         → eqb n cancelPending ≡ false → isPurposed n ≡ true → (x : Bool) → among n (partialFailure ∷ active ∷ []) ≡ x → AtClose n a b act
     kept n e n7 l n3 w n1 n2 u x y = record {
       small = l;
@@ -212,7 +212,7 @@ row-closed w c o = go (closeTo (w .cast)) (at-closed (w .cast))
       new = c .new;
       old = c .old;
       one = or-l (w .new .created) (w .old .created) (c .created);
-      needed = rw (a .no1, a .no2) (need (isPurposed s || eqb s old) (c .created));
+      needed = rw (a .no1, a .no2) (need (needsNew s) (c .created));
       cause = c .cause;
       canceller = rw (c .uncancelled, a .no2);
       apart = c .apart;
@@ -250,18 +250,21 @@ settled-status s h = go (eqb s 5) refl (eqb s 6) refl
     go false p true q = at 6 q (refl, refl)
     go false p false q = clash (rw (p, q) at h)
 
+purposed-needs : (s : ℕ) → isPurposed s ≡ true → needsNew s ≡ true
+purposed-needs s p = rw p
+
 -- in a status with a purpose the new side has created
 pub purposed-created : (x : Version) → Row x → isPurposed (x .status) ≡ true → x .new .created ≡ true
 unfolding sidesNeeded
 purposed-created x row p =
     let s : ℕ = x .status in
-    is (isPurposed s) (eqb s old) (x .new .created) p
+    is (needsNew s) (x .new .created) (purposed-needs s p)
     (and-r (implies (eqb s conflict) (x .old .created) && implies (eqb s cancelPending) (x .new .created && x .old .created))
     _ (row .needed))
   where
-    is : (a b c : Bool) → a ≡ true → implies (a || b) c ≡ true → c ≡ true
-    is true b c e h = h
-    is false b c e h = clash e
+    is : (a c : Bool) → a ≡ true → implies a c ≡ true → c ≡ true
+    is true c e h = h
+    is false c e h = clash e
 
 -- outside cancel-pending nobody is marked as canceller
 pub no-canceller : (x : Version) → Row x → eqb (x .status) cancelPending ≡ false → ltb 0 (x .canceller) ≡ false

@@ -67,7 +67,7 @@ blank-row id s t n o tn number time pn po d wn wo c one q no2 clashes = record {
   old = wo;
   one = one;
   needed = both-true (implies (eqb s conflict) (o .created) && implies (eqb s cancelPending) (n .created && o .created)) _
-      (both-true (implies (eqb s conflict) (o .created)) _ clashes (rw no2)) (rw (q .aimless, q .no7));
+      (both-true (implies (eqb s conflict) (o .created)) _ clashes (rw no2)) (rw (q .alone));
   cause = c;
   canceller = rw no2;
   apart = none-apart;

@@ -10,7 +10,7 @@ use borrow.Author.Tests.{eqb-true}
 use Rattle.model.specs.Versions.{restated}
 use Rattle.model.specs.Basics.{among, iff, implies, none, with}
 use Rattle.model.specs.Numbers.{tenDigits, isNumber, isTime, isProvider, isSet}
-use Rattle.model.specs.Sound.{pending, conflict, cancelPending, failure, partialFailure, active, old, canceled, isWorked, isSending}
+use Rattle.model.specs.Sound.{pending, conflict, cancelPending, failure, partialFailure, active, old, canceled, isWorked, isSending, needsNew, isStatus}
 use Rattle.model.specs.Sound.{isPurposed, inRange, castInRange, retriesInRange, sidesDiffer, newWhole, oldWhole, oneCreated}
 use Rattle.model.specs.Sound.{sidesNeeded, causeFits, cancellerFits, setsApart, retriesFit, startFits, waitingFits, purposeFits}
 use Rattle.model.specs.Sound.{liveFits, liveConfirmed, soundVersion}
@@ -50,7 +50,7 @@ ranges-cast c r =
 pub record Ranges (v : Version) : Type 0 where
   pub tn : tenDigits (v .id .tn .0) ≡ true
   pub number : isNumber (v .id .number) ≡ true
-  pub status : leb (v .status) 8 ≡ true
+  pub status : isStatus (v .status) ≡ true
   pub stamp : isTime (v .stamp) ≡ true
   pub new : isProvider (v .new .provider) ≡ true
   pub old : isProvider (v .old .provider) ≡ true
@@ -59,7 +59,7 @@ pub record Ranges (v : Version) : Type 0 where
 
 abbrev rangeClauses : Version → List Bool
 rangeClauses v =
-    tenDigits (v .id .tn .0) ∷ isNumber (v .id .number) ∷ leb (v .status) 8 ∷ isTime (v .stamp) ∷ isProvider (v .new .provider)
+    tenDigits (v .id .tn .0) ∷ isNumber (v .id .number) ∷ isStatus (v .status) ∷ isTime (v .stamp) ∷ isProvider (v .new .provider)
     ∷ isProvider (v .old .provider) ∷ leb (v .canceller) 2 ∷ castInRange (v .cast) ∷ []
 
 pub ranges-of : (v : Version) → inRange v ≡ true → Ranges v
@@ -136,20 +136,20 @@ pub record Calm (s : ℕ) : Type 0 where
   pub aimless : isPurposed s ≡ false
   pub no45 : among s (failure ∷ partialFailure ∷ []) ≡ false
   pub no56 : among s (partialFailure ∷ active ∷ []) ≡ false
-  pub no7 : eqb s old ≡ false
-  pub small : leb s 8 ≡ true
+  pub alone : needsNew s ≡ false
+  pub small : isStatus s ≡ true
 
 pub calm0 : Calm pending
-calm0 = record { no3 = refl; aimless = refl; no45 = refl; no56 = refl; no7 = refl; small = refl }
+calm0 = record { no3 = refl; aimless = refl; no45 = refl; no56 = refl; alone = refl; small = refl }
 
 pub calm1 : Calm conflict
-calm1 = record { no3 = refl; aimless = refl; no45 = refl; no56 = refl; no7 = refl; small = refl }
+calm1 = record { no3 = refl; aimless = refl; no45 = refl; no56 = refl; alone = refl; small = refl }
 
 pub calm2 : Calm cancelPending
-calm2 = record { no3 = refl; aimless = refl; no45 = refl; no56 = refl; no7 = refl; small = refl }
+calm2 = record { no3 = refl; aimless = refl; no45 = refl; no56 = refl; alone = refl; small = refl }
 
 pub calm8 : Calm canceled
-calm8 = record { no3 = refl; aimless = refl; no45 = refl; no56 = refl; no7 = refl; small = refl }
+calm8 = record { no3 = refl; aimless = refl; no45 = refl; no56 = refl; alone = refl; small = refl }
 
 pub calm-cond : (b : Bool) {x y : ℕ} → Calm x → Calm y → Calm (cond b x y)
 calm-cond true p q = p
@@ -203,7 +203,7 @@ row-calm v s t n o c x row p q time pn po d = record {
   one = d .one;
   needed =
       both-true (implies (eqb s conflict) (o .created) && implies (eqb s cancelPending) (n .created && o .created)) _
-      (both-true (implies (eqb s conflict) (o .created)) _ (d .clashing) (d .cancelling)) (rw (q .aimless, q .no7));
+      (both-true (implies (eqb s conflict) (o .created)) _ (d .clashing) (d .cancelling)) (rw (q .alone));
   cause = d .cause;
   canceller = d .canceller;
   apart = row .apart;

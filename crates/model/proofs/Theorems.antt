@@ -14,7 +14,7 @@ use Rattle.model.specs.Books.{Books}
 use Rattle.model.specs.Selection.{classOf, isSelected, selectedFor}
 use Rattle.model.specs.Broadcast.{resends, opened, broadcasts}
 use Rattle.model.specs.Table.{rowsOf, find}
-use Rattle.model.specs.Sound.{soundTable, canceled}
+use Rattle.model.specs.Sound.{soundTable, lastStatus}
 use Rattle.model.specs.Record.{isCreate}
 use Rattle.model.specs.Outcomes.{isDone}
 use Rattle.model.specs.Given.{Given, workedOne}
@@ -145,5 +145,5 @@ pub grid-entries : length cells ≡ 297
 grid-entries = entries
 
 -- The grid's rule over all 297 entries of its table: status s, place j among the eleven kinds, standing w. [H6]
-pub grid-rule : (s j w : ℕ) → s ≤ canceled → j < 11 → w < 3 → getD cells ((s * 11 + j) * 3 + w) 0 ≡ gridRule s (kindAt j) w
+pub grid-rule : (s j w : ℕ) → s ≤ lastStatus → j < 11 → w < 3 → getD cells ((s * 11 + j) * 3 + w) 0 ≡ gridRule s (kindAt j) w
 grid-rule = by-place

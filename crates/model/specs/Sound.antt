@@ -46,9 +46,11 @@ old = 7
 abbrev pub canceled : ℕ
 canceled = 8
 
--- canceled is the last of them
+abbrev pub lastStatus : ℕ
+lastStatus = canceled
+
 abbrev pub isStatus : ℕ → Bool
-isStatus s = leb s canceled
+isStatus s = leb s lastStatus
 
 -- *worked*: pending, conflict, cancel-pending
 abbrev pub isWorked : ℕ → Bool
@@ -60,6 +62,10 @@ isSending s = eqb s sending
 -- the statuses that have a purpose
 abbrev pub isPurposed : ℕ → Bool
 isPurposed s = among s (sending ∷ failure ∷ partialFailure ∷ active ∷ [])
+
+-- the statuses that a version comes to only with the new side
+abbrev pub needsNew : ℕ → Bool
+needsNew s = isPurposed s || eqb s old
 
 -- purposes: 1 activate, 2 modify, 3 disconnect; 0 none
 abbrev pub activate : ℕ
@@ -120,7 +126,7 @@ unfoldable pub sidesNeeded : Version → Bool
 sidesNeeded v =
     implies (eqb (v .status) conflict) (v .old .created)
     && implies (eqb (v .status) cancelPending) (v .new .created && v .old .created)
-    && implies (isPurposed (v .status) || eqb (v .status) old) (v .new .created)
+    && implies (needsNew (v .status)) (v .new .created)
 
 -- cause 1 to 99 exactly with "no" [V4]
 unfoldable pub causeFits : OldSide → Bool

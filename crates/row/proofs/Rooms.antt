@@ -13,7 +13,7 @@ use Rattle.model.specs.declared.Retries.{Retries}
 use Rattle.model.specs.declared.Version.{Version}
 use Rattle.model.specs.Basics.{among}
 use Rattle.model.specs.Numbers.{tenDigits, isProvider, isTime, isNumber}
-use Rattle.model.specs.Sound.{yes, no, retriesInRange, newWhole, oldWhole, causeFits, soundVersion}
+use Rattle.model.specs.Sound.{yes, no, retriesInRange, newWhole, oldWhole, causeFits, soundVersion, lastStatus}
 use Rattle.model.proofs.Lists.{and-l, and-r, conj-at}
 use Rattle.model.proofs.SoundSets.{in-set}
 use Rattle.model.proofs.SoundRows.{row-of, cast-ranges}
@@ -99,7 +99,7 @@ sound-room v e =
     let r = row-of v e in
     let g = r .ranges in
     let c = cast-ranges (v .cast) (g .cast) in
-    let status : v .status ≤ 8 = leb-true _ _ (g .status) in
+    let status : v .status ≤ lastStatus = leb-true _ _ (g .status) in
     let canceller : v .canceller ≤ 2 = leb-true _ _ (g .canceller) in
     let purpose : v .cast .purpose ≤ 3 = leb-true _ _ (c .purpose) in
     let retries = retries-lt (v .cast .retries) (c .retries) in

@@ -12,7 +12,7 @@ use borrow.Author.Tests.{eqb-true, leb-true, leb-false, le-leb, ltb-true, not-fa
 use Rattle.systems.specs.Set.{member}
 use Rattle.model.specs.Books.{Books}
 use Rattle.model.specs.Record.{isPlain, isCreate, isAnswer, wellFormed, kindFits}
-use Rattle.model.specs.Sound.{apart, setsApart, retriesInRange, canceled}
+use Rattle.model.specs.Sound.{apart, setsApart, retriesInRange, lastStatus}
 use Rattle.model.specs.Standing.{isGridKind}
 use Rattle.model.specs.Outcomes.{isDone, numberOf, judge, orderOf, createOrder, answerOrder}
 use Rattle.model.specs.Given.{withNumber, besides, found}
@@ -244,5 +244,5 @@ grid-formed e h c a =
     go false p false q false u false w false x false y false z false o = clash (rw (p, q, u, w, x, y, z, o) at (fields e h .kind))
 
 pub grid-asks : (e : Event) (v : Version) → wellFormed e ≡ true → isCreate (e .kind) ≡ false → isAnswer (e .kind) ≡ false → Row v
-    → (v .status ≤ canceled) × (isGridKind (e .kind) ≡ true)
-grid-asks e v h c a r = (leb-true (v .status) canceled (r .ranges .status), grid-formed e h c a)
+    → (v .status ≤ lastStatus) × (isGridKind (e .kind) ≡ true)
+grid-asks e v h c a r = (leb-true (v .status) lastStatus (r .ranges .status), grid-formed e h c a)

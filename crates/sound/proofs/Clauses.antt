@@ -9,7 +9,7 @@ use Rattle.model.specs.declared.Version.{Version}
 use Rattle.model.specs.Numbers.{tenDigits, isProvider, isSet, isTime, isNumber}
 use Rattle.model.proofs.Lists.{conj, conj-at, conj-all}
 use Rattle.model.specs.Basics.{none, with}
-use Rattle.model.specs.Sound.{retriesInRange, castInRange, inRange, sidesDiffer, newWhole, oldWhole, oneCreated, sidesNeeded, causeFits}
+use Rattle.model.specs.Sound.{retriesInRange, castInRange, inRange, sidesDiffer, newWhole, oldWhole, oneCreated, sidesNeeded, causeFits, isStatus}
 use Rattle.model.specs.Sound.{cancellerFits, setsApart, retriesFit, startFits, waitingFits, purposeFits, liveFits, liveConfirmed}
 use Rattle.model.specs.Sound.{soundVersion}
 use Rattle.sound.specs.Marks.{marksFit}
@@ -23,7 +23,7 @@ same false false f g = refl
 
 module _ (v : Version) where
   abbrev ranges : List Bool
-  ranges = tenDigits (v .id .tn .0) ∷ isNumber (v .id .number) ∷ leb (v .status) 8 ∷ isTime (v .stamp) ∷ isProvider (v .new .provider)
+  ranges = tenDigits (v .id .tn .0) ∷ isNumber (v .id .number) ∷ isStatus (v .status) ∷ isTime (v .stamp) ∷ isProvider (v .new .provider)
       ∷ isProvider (v .old .provider) ∷ leb (v .canceller) 2 ∷ castInRange (v .cast) ∷ []
 
   abbrev casts : List Bool
@@ -36,7 +36,7 @@ module _ (v : Version) where
       ∷ liveFits v ∷ liveConfirmed v ∷ []
 
   abbrev outline : List Bool
-  outline = tenDigits (v .id .tn .0) ∷ isNumber (v .id .number) ∷ leb (v .status) 8 ∷ isProvider (v .new .provider)
+  outline = tenDigits (v .id .tn .0) ∷ isNumber (v .id .number) ∷ isStatus (v .status) ∷ isProvider (v .new .provider)
       ∷ isProvider (v .old .provider) ∷ leb (v .canceller) 2 ∷ leb (v .cast .purpose) 3 ∷ []
 
   abbrev marks : List Bool
@@ -101,7 +101,7 @@ module _ (v : Version) where
 pub sound-order : (v : Version) → soundVersion v ≡ (shapeFits v && castFits v)
 sound-order v = same (soundVersion v) (shapeFits v && castFits v) (there v) (back v)
 
-pub outline-status : (v : Version) → outlineFits v ≡ true → leb (v .status) 8 ≡ true
+pub outline-status : (v : Version) → outlineFits v ≡ true → isStatus (v .status) ≡ true
 unfolding outlineFits
 outline-status v e = conj-at (outline v) e 2
 

@@ -2,12 +2,12 @@
 use mathlib.Core.Path.{_≡_, refl, sym, subst}
 use mathlib.Core.Bool.{Bool, true, false, cond, _&&_, _||_}
 use mathlib.Core.List.{List, [], _∷_}
-use Prim.Native.Nat.{ℕ, _+_, _-_, _*_, _/_, _%_, _^_, _≤_}
+use Prim.Native.Nat.{ℕ, _+_, _-_, _*_, _/_, _%_, _^_, _≤_, suc}
 use native.Mathlib.Omega.{arith}
 use lib.Dec.{eqb, ltb}
 use lib.ListN.{getD}
 use Rattle.model.specs.Basics.{iff, implies, among, every}
-use Rattle.model.specs.Sound.{isPurposed}
+use Rattle.model.specs.Sound.{isPurposed, lastStatus, needsNew, conflict, cancelPending, failure, partialFailure, active, isSending, activate, disconnect}
 use Rattle.sound.specs.Marks.{fitBits}
 use Rattle.model.proofs.Lists.{conj-at}
 use Rattle.model.proofs.SoundSets.{every-at}
@@ -15,9 +15,9 @@ use Rattle.model.proofs.SoundSets.{every-at}
 -- the clauses, of a status, a purpose and the marks live, new side created, old side created
 abbrev pub rule : ℕ → ℕ → Bool → Bool → Bool → Bool
 rule s p l n o =
-    (n || o) && (implies (eqb s 1) o && implies (eqb s 2) (n && o) && implies (isPurposed s || eqb s 7) n)
-    && (iff (ltb 0 p) (isPurposed s) && implies (among s (4 ∷ 5 ∷ [])) (eqb p 1)) && cond (eqb s 3) (l || eqb p 1)
-    (iff l (among s (5 ∷ 6 ∷ [])))
+    (n || o) && (implies (eqb s conflict) o && implies (eqb s cancelPending) (n && o) && implies (needsNew s) n)
+    && (iff (ltb 0 p) (isPurposed s) && implies (among s (failure ∷ partialFailure ∷ [])) (eqb p activate))
+    && cond (isSending s) (l || eqb p activate) (iff l (among s (partialFailure ∷ active ∷ [])))
 
 abbrev pub entry : ℕ → ℕ → Bool → Bool → Bool → Bool
 entry s p l n o = eqb (getD fitBits s 0 / 2 ^ (p * 8 + cond l 1 0 * 4 + cond n 1 0 * 2 + cond o 1 0) % 2) 1
@@ -46,7 +46,7 @@ right-at s p false true false e = conj-at (cases (agree s p)) e 5
 right-at s p false false true e = conj-at (cases (agree s p)) e 6
 right-at s p false false false e = conj-at (cases (agree s p)) e 7
 
-computed : every (λ (s : ℕ). every (λ (p : ℕ). right (s - 1) (p - 1)) 4) 9 ≡ true
+computed : every (λ (s : ℕ). every (λ (p : ℕ). right (s - 1) (p - 1)) (suc disconnect)) (suc lastStatus) ≡ true
 unfolding every right fitBits
 computed = refl
 
@@ -55,12 +55,12 @@ iff-same true b e = sym e
 iff-same false true e = e
 iff-same false false e = refl
 
-pub entry-rule : (s p : ℕ) (l n o : Bool) → s ≤ 8 → p ≤ 3 → entry s p l n o ≡ rule s p l n o
+pub entry-rule : (s p : ℕ) (l n o : Bool) → s ≤ lastStatus → p ≤ disconnect → entry s p l n o ≡ rule s p l n o
 entry-rule s p l n o h k =
-    let row : every (λ (q : ℕ). right (s + 1 - 1) (q - 1)) 4 ≡ true =
-    every-at (λ (r : ℕ). every (λ (q : ℕ). right (r - 1) (q - 1)) 4) 9 (s + 1) computed (omega arith) (omega arith) in
+    let row : every (λ (q : ℕ). right (s + 1 - 1) (q - 1)) (suc disconnect) ≡ true =
+    every-at (λ (r : ℕ). every (λ (q : ℕ). right (r - 1) (q - 1)) (suc disconnect)) (suc lastStatus) (s + 1) computed (omega arith) (omega arith) in
     let cell : right (s + 1 - 1) (p + 1 - 1) ≡ true =
-    every-at (λ (q : ℕ). right (s + 1 - 1) (q - 1)) 4 (p + 1) row (omega arith) (omega arith) in
+    every-at (λ (q : ℕ). right (s + 1 - 1) (q - 1)) (suc disconnect) (p + 1) row (omega arith) (omega arith) in
     let a : s + 1 - 1 ≡ s = omega arith in
     let b : p + 1 - 1 ≡ p = omega arith in
     iff-same (entry s p l n o) (rule s p l n o)

@@ -4,13 +4,14 @@ use model::status;
 ghost use mathlib.Core.Path.{_≡_};
 ghost use mathlib.Core.Bool.{cond};
 ghost use Prim.Native.Nat.{_≤_};
+ghost use Rattle.model.specs.Sound.{lastStatus, disconnect};
 ghost use Rattle.sound.specs.Marks.{fitBits, marksFit};
 ghost use lib.ListN.{getD};
 
 // For each status the places that fit: purpose * 8 + live * 4 + new side created * 2 + old side created. A match is compiled to a table
 // that stands in the program; a constant array would be made anew at each call.
 fn places(status: u8) -> u64
-    requires { ⌜ status ≤ 8 ⌝ }
+    requires { ⌜ status ≤ lastStatus ⌝ }
     ensures { λ r. ⌜ r ≡ getD fitBits status 0 ⌝ }
 {
     match status {
@@ -34,7 +35,7 @@ fn bit(b: bool) -> u8
 }
 
 pub fn marks_fit(v: Version) -> bool
-    requires { ⌜ (v .status ≤ 8) × (v .cast .purpose ≤ 3) ⌝ }
+    requires { ⌜ (v .status ≤ lastStatus) × (v .cast .purpose ≤ disconnect) ⌝ }
     ensures { λ r. ⌜ r ≡ marksFit v ⌝ }
 {
     let places = places(v.status);
