@@ -3,11 +3,14 @@ ghost use mathlib.Core.Path.{_≡_};
 ghost use mathlib.Core.Bool.{true};
 ghost use Prim.Native.Nat.{_<_, _≤_};
 ghost use Rattle.model.specs.Sound.{lastStatus};
-ghost use Rattle.model.specs.Standing.{gridRule, gridPlace, isGridKind};
+ghost use Rattle.model.specs.Standing.{gridRule, gridKinds, gridPlace, isGridKind};
 use model::kind;
 use model::standing;
 
-// Entry (status * 11 + place of the kind) * 3 + standing.
+// The kinds that the grid has.
+const KINDS: usize = 11;
+
+// Entry (status * KINDS + place of the kind) * 3 + standing.
 const GRID: [u8; 297] = [
     0,
     6,
@@ -311,7 +314,7 @@ const GRID: [u8; 297] = [
 // The place of a kind among the eleven: 3 to 10, then 13 to 15.
 fn place_of(kind: u8) -> usize
     requires { ⌜ isGridKind kind ≡ true ⌝ }
-    ensures { λ r. ⌜ (r ≡ gridPlace kind) × (r < 11) ⌝ }
+    ensures { λ r. ⌜ (r ≡ gridPlace kind) × (r < gridKinds) ⌝ }
 {
     if kind < kind::REPLY {
         (kind - kind::NEW_MODIFIES) as usize
@@ -329,6 +332,6 @@ pub fn grid(status: u8, kind: u8, standing: u8) -> u8
         return 6;
     }
     let place = place_of(kind);
-    let at = ((status as usize) * 11 + place) * 3 + standing as usize;
+    let at = ((status as usize) * KINDS + place) * 3 + standing as usize;
     GRID[at]
 }

@@ -2,15 +2,16 @@
 -- Assumes nothing.
 use mathlib.Core.Path.{_≡_}
 use mathlib.Core.Bool.{true, false}
-use Prim.Native.Nat.{ℕ, _≤_, _<_}
+use Prim.Native.Nat.{ℕ, suc, _≤_, _<_}
 use native.Mathlib.Nat.{lt-of-not-le}
 use native.Mathlib.Decide.{decLe}
 use native.Mathlib.Omega.{arith}
 use borrow.Author.Tests.{le-leb, lt-leb, ne-eqb}
 use Rattle.model.specs.declared.Event.{Event}
+use Rattle.model.specs.Kinds as kind
 use Rattle.model.specs.Record.{isPlain, plainly, kindFits}
 
-pub above : (e : Event) → 16 ≤ e .kind → kindFits e ≡ false
+pub above : (e : Event) → kind.last < e .kind → kindFits e ≡ false
 unfolding kindFits
 above e h =
     let k = e .kind in
@@ -18,7 +19,7 @@ above e h =
       le-leb 5 k (omega arith),
       lt-leb k 8 (omega arith),
       le-leb 13 k (omega arith),
-      lt-leb k 15 (omega arith),
+      lt-leb k kind.last (omega arith),
       ne-eqb k 10 (λ q. omega arith),
       ne-eqb k 1 (λ q. omega arith),
       ne-eqb k 2 (λ q. omega arith),
@@ -36,16 +37,16 @@ low k h n1 n2 n3 n4 = omega arith
 high : (k : ℕ) → 8 < k → (k ≡ 9 → ⊥) → (k ≡ 10 → ⊥) → (k ≡ 11 → ⊥) → (k ≡ 12 → ⊥) → 13 ≤ k
 high k h n9 n10 n11 n12 = omega arith
 
-plain-kind : (k : ℕ) → 5 ≤ k → k < 16 → (8 < k → 13 ≤ k) → isPlain k ≡ true
+plain-kind : (k : ℕ) → 5 ≤ k → k < suc kind.last → (8 < k → 13 ≤ k) → isPlain k ≡ true
 plain-kind k lo hi up =
     elim (decLe k 8) [
       | yes h ↦ simp (le-leb 5 k lo, le-leb k 8 h)
       | no h ↦
           let m : 13 ≤ k = up (lt-of-not-le h) in
-          simp (le-leb 5 k lo, lt-leb k 8 (omega arith), ne-eqb k 10 (λ q. omega arith), le-leb 13 k m, le-leb k 15 (omega arith))
+          simp (le-leb 5 k lo, lt-leb k 8 (omega arith), ne-eqb k 10 (λ q. omega arith), le-leb 13 k m, le-leb k kind.last (omega arith))
     ]
 
-pub plain : (e : Event) → 1 ≤ e .kind → e .kind < 16
+pub plain : (e : Event) → 1 ≤ e .kind → e .kind < suc kind.last
     → (e .kind ≡ 1 → ⊥) → (e .kind ≡ 2 → ⊥) → (e .kind ≡ 3 → ⊥) → (e .kind ≡ 4 → ⊥)
     → (e .kind ≡ 9 → ⊥) → (e .kind ≡ 10 → ⊥) → (e .kind ≡ 11 → ⊥) → (e .kind ≡ 12 → ⊥) → plainly e ≡ kindFits e
 unfolding kindFits

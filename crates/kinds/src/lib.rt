@@ -142,7 +142,7 @@ fn kind_fits(e: Event) -> bool
         kind::SILENCE => silent(e),
         kind::ACTIVATE..=kind::RESOLVE_CONFLICT
         | kind::DISCONNECT
-        | kind::WINDOW_RAN_OUT..=kind::PURGE => plainly(e),
+        | kind::WINDOW_RAN_OUT..=kind::LAST => plainly(e),
         _ => false,
     }
 }

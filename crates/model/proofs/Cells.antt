@@ -1,4 +1,4 @@
--- The grid's 297 entries, and the rule at all of them: one test that antt computes. [H6]
+-- The grid's entries, and the rule at all of them: one test that antt computes. [H6]
 -- Assumes nothing.
 use mathlib.Core.Path.{_≡_, _∙_, ap, ap₂, refl}
 use mathlib.Core.List.{List, [], _∷_}
@@ -9,7 +9,8 @@ use borrow.Author.Tests.{lt-ltb, le-ltb, leb-true, lt-leb, ne-eqb}
 use lib.Dec.{eqb, eqb→eq, leb}
 use lib.ListN.{length, getD}
 use Rattle.model.specs.Sound.{lastStatus}
-use Rattle.model.specs.Standing.{gridRule, isGridKind, gridPlace, kindAt, statusFor}
+use Rattle.model.specs.Kinds as kind
+use Rattle.model.specs.Standing.{gridRule, isGridKind, gridPlace, kindAt, statusFor, gridKinds, gridEntries}
 use Rattle.model.specs.Basics.{among}
 use Rattle.model.proofs.Lists.{clash}
 use Rattle.model.proofs.Entries.{at}
@@ -26,51 +27,51 @@ cells =
     7 ∷ 6 ∷ 6 ∷ 6 ∷ 7 ∷ 6 ∷ 7 ∷ 6 ∷ 6 ∷ 7 ∷ 7 ∷ 6 ∷ 7 ∷ 7 ∷ 6 ∷ 7 ∷ 7 ∷ 6 ∷ 7 ∷ 6 ∷ 6 ∷ 7 ∷ 6 ∷ 6 ∷ 6 ∷ 6 ∷ 7 ∷ 6 ∷ 6 ∷ 7 ∷ 6 ∷ 6 ∷ 0 ∷
     7 ∷ 6 ∷ 6 ∷ 6 ∷ 7 ∷ 6 ∷ 7 ∷ 6 ∷ 6 ∷ 7 ∷ 7 ∷ 6 ∷ 7 ∷ 7 ∷ 6 ∷ 7 ∷ 7 ∷ 6 ∷ 7 ∷ 6 ∷ 6 ∷ 7 ∷ 6 ∷ 6 ∷ 6 ∷ 6 ∷ 7 ∷ 6 ∷ 6 ∷ 7 ∷ 6 ∷ 6 ∷ 0 ∷ []
 
-pub entries : length cells ≡ 297
+pub entries : length cells ≡ gridEntries
 unfolding cells
 entries = refl
 
 -- the rule at entry i
 unfoldable ruleAt : ℕ → ℕ
-ruleAt i = gridRule (i / 33) (kindAt (i / 3 % 11)) (i % 3)
+ruleAt i = gridRule (i / (gridKinds * 3)) (kindAt (i / 3 % gridKinds)) (i % 3)
 
 unfoldable right : ℕ → ℕ → Bool
 right i x = eqb x (ruleAt i)
 
-by-entry : (i : ℕ) → i < 297 → getD cells i 0 ≡ ruleAt i
+by-entry : (i : ℕ) → i < gridEntries → getD cells i 0 ≡ ruleAt i
 unfolding cells right ruleAt gridRule
 by-entry i h = eqb→eq (getD cells i 0) (ruleAt i) (at right cells tt i h)
 
-pub by-place : (s j t : ℕ) → s ≤ lastStatus → j < 11 → t < 3 → getD cells ((s * 11 + j) * 3 + t) 0 ≡ gridRule s (kindAt j) t
+pub by-place : (s j t : ℕ) → s ≤ lastStatus → j < gridKinds → t < 3 → getD cells ((s * gridKinds + j) * 3 + t) 0 ≡ gridRule s (kindAt j) t
 unfolding ruleAt
 by-place s j t hs hj ht =
-    let a : ((s * 11 + j) * 3 + t) / 33 ≡ s = omega arith in
-    let b : ((s * 11 + j) * 3 + t) / 3 % 11 ≡ j = omega arith in
-    let d : ((s * 11 + j) * 3 + t) % 3 ≡ t = omega arith in
-    by-entry ((s * 11 + j) * 3 + t) (omega arith)
-    ∙ ap₂ (λ (x y : ℕ). gridRule x (kindAt y) (((s * 11 + j) * 3 + t) % 3)) a b ∙ ap (λ (z : ℕ). gridRule s (kindAt j) z) d
+    let a : ((s * gridKinds + j) * 3 + t) / (gridKinds * 3) ≡ s = omega arith in
+    let b : ((s * gridKinds + j) * 3 + t) / 3 % gridKinds ≡ j = omega arith in
+    let d : ((s * gridKinds + j) * 3 + t) % 3 ≡ t = omega arith in
+    by-entry ((s * gridKinds + j) * 3 + t) (omega arith)
+    ∙ ap₂ (λ (x y : ℕ). gridRule x (kindAt y) (((s * gridKinds + j) * 3 + t) % 3)) a b ∙ ap (λ (z : ℕ). gridRule s (kindAt j) z) d
 
 -- ---- the kinds and their places
 
 -- 3 to 10
-low-kind : (k : ℕ) → 3 ≤ k → k ≤ 10 → (gridPlace k < 11) × (kindAt (gridPlace k) ≡ k)
+low-kind : (k : ℕ) → 3 ≤ k → k ≤ 10 → (gridPlace k < gridKinds) × (kindAt (gridPlace k) ≡ k)
 low-kind k a b = rw (lt-ltb k 11 (omega arith)) (omega arith, rw (lt-ltb (k - 3) 8 (omega arith)) (omega arith))
 
--- 13 to 15
-high-kind : (k : ℕ) → 13 ≤ k → k ≤ 15 → (gridPlace k < 11) × (kindAt (gridPlace k) ≡ k)
+-- from 13 on
+high-kind : (k : ℕ) → 13 ≤ k → k ≤ kind.last → (gridPlace k < gridKinds) × (kindAt (gridPlace k) ≡ k)
 high-kind k a b = rw (le-ltb k 11 (omega arith)) (omega arith, rw (le-ltb (k - 5) 8 (omega arith)) (omega arith))
 
-pub grid-kind : (k : ℕ) → isGridKind k ≡ true → (gridPlace k < 11) × (kindAt (gridPlace k) ≡ k)
-grid-kind k h = go (leb 3 k) refl (leb k 10) refl (leb 13 k) refl (leb k 15) refl h
+pub grid-kind : (k : ℕ) → isGridKind k ≡ true → (gridPlace k < gridKinds) × (kindAt (gridPlace k) ≡ k)
+grid-kind k h = go (leb 3 k) refl (leb k 10) refl (leb 13 k) refl (leb k kind.last) refl h
   where
-    go : (a : Bool) → leb 3 k ≡ a → (b : Bool) → leb k 10 ≡ b → (c : Bool) → leb 13 k ≡ c → (d : Bool) → leb k 15 ≡ d
+    go : (a : Bool) → leb 3 k ≡ a → (b : Bool) → leb k 10 ≡ b → (c : Bool) → leb 13 k ≡ c → (d : Bool) → leb k kind.last ≡ d
         → ((a && b) || (c && d)) ≡ true
-        → (gridPlace k < 11) × (kindAt (gridPlace k) ≡ k)
+        → (gridPlace k < gridKinds) × (kindAt (gridPlace k) ≡ k)
     go true p true q c r d s e = low-kind k (leb-true 3 k p) (leb-true k 10 q)
-    go true p false q true r true s e = high-kind k (leb-true 13 k r) (leb-true k 15 s)
+    go true p false q true r true s e = high-kind k (leb-true 13 k r) (leb-true k kind.last s)
     go true p false q true r false s e = clash e
     go true p false q false r d s e = clash e
-    go false p b q true r true s e = high-kind k (leb-true 13 k r) (leb-true k 15 s)
+    go false p b q true r true s e = high-kind k (leb-true 13 k r) (leb-true k kind.last s)
     go false p b q true r false s e = clash e
     go false p b q false r d s e = clash e
 
@@ -78,7 +79,7 @@ grid-kind k h = go (leb 3 k) refl (leb k 10) refl (leb 13 k) refl (leb k 15) ref
 pub grid-low : (k : ℕ) → isGridKind k ≡ true → 3 ≤ k
 grid-low k h = go (leb 3 k) refl (leb 13 k) refl h
   where
-    go : (a : Bool) → leb 3 k ≡ a → (c : Bool) → leb 13 k ≡ c → ((a && leb k 10) || (c && leb k 15)) ≡ true → 3 ≤ k
+    go : (a : Bool) → leb 3 k ≡ a → (c : Bool) → leb 13 k ≡ c → ((a && leb k 10) || (c && leb k kind.last)) ≡ true → 3 ≤ k
     go true p c r e = leb-true 3 k p
     go false p true r e = let x : 13 ≤ k = leb-true 13 k r in omega arith
     go false p false r e = clash e

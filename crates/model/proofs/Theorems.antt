@@ -19,7 +19,7 @@ use Rattle.model.specs.Record.{isCreate}
 use Rattle.model.specs.Outcomes.{isDone}
 use Rattle.model.specs.Given.{Given, workedOne}
 use Rattle.model.specs.Refusals.{refuses}
-use Rattle.model.specs.Standing.{gridRule, kindAt}
+use Rattle.model.specs.Standing.{gridRule, kindAt, gridKinds, gridEntries}
 use Rattle.model.specs.Step.{Setting, line, unsound, step, stepOf, after}
 use Rattle.model.specs.Exchange.{Demand3, Same}
 use Rattle.model.proofs.Lists.{clash}
@@ -140,10 +140,10 @@ pub classes-shown : (shown 303555 ≡ 0 ∷ 0 ∷ 4 ∷ 2 ∷ 1 ∷ []) × (show
     × (shown 720123 ≡ 0 ∷ 3 ∷ 0 ∷ 2 ∷ 1 ∷ [])
 classes-shown = classes
 
--- The grid's table has 9 times 11 times 3 entries. [G2]
-pub grid-entries : length cells ≡ 297
+-- The grid's table has an entry for each status, kind and standing. [G2]
+pub grid-entries : length cells ≡ gridEntries
 grid-entries = entries
 
--- The grid's rule over all 297 entries of its table: status s, place j among the eleven kinds, standing w. [H6]
-pub grid-rule : (s j w : ℕ) → s ≤ lastStatus → j < 11 → w < 3 → getD cells ((s * 11 + j) * 3 + w) 0 ≡ gridRule s (kindAt j) w
+-- The grid's rule over all entries of its table: status s, place j among the kinds, standing w. [H6]
+pub grid-rule : (s j w : ℕ) → s ≤ lastStatus → j < gridKinds → w < 3 → getD cells ((s * gridKinds + j) * 3 + w) 0 ≡ gridRule s (kindAt j) w
 grid-rule = by-place

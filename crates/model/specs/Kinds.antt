@@ -46,3 +46,7 @@ resend = 14
 
 abbrev pub purge : ℕ
 purge = 15
+
+-- the last of them
+abbrev pub last : ℕ
+last = purge

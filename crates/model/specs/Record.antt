@@ -30,7 +30,7 @@ isBroadcast k = among k (kind.activate ∷ kind.modifyActive ∷ kind.disconnect
 
 -- 5 activate, 6 cancel, 7 acknowledge cancel, 8 resolve conflict, 10 disconnect, 13 window ran out, 14 resend, 15 purge
 abbrev pub isPlain : ℕ → Bool
-isPlain k = (leb kind.activate k && leb k kind.resolve) || eqb k kind.disconnect || (leb kind.windowRanOut k && leb k kind.purge)
+isPlain k = (leb kind.activate k && leb k kind.resolve) || eqb k kind.disconnect || (leb kind.windowRanOut k && leb k kind.last)
 
 -- ---- the fields besides TN and time [E2, E3]
 

@@ -61,9 +61,16 @@ statusFor k s =
     (cond (eqb k kind.resend) (among s (failure ∷ partialFailure ∷ active ∷ []))
     (among s (old ∷ canceled ∷ []))))))))
 
--- the kinds of the grid, 3 to 10 and 13 to 15, and their places in it
+-- the kinds of the grid, all but creates and answers, and their places in it
 abbrev pub isGridKind : ℕ → Bool
-isGridKind k = (leb kind.newModifies k && leb k kind.disconnect) || (leb kind.windowRanOut k && leb k kind.purge)
+isGridKind k = (leb kind.newModifies k && leb k kind.disconnect) || (leb kind.windowRanOut k && leb k kind.last)
+
+abbrev pub gridKinds : ℕ
+gridKinds = 11
+
+-- statuses by kinds by standings
+abbrev pub gridEntries : ℕ
+gridEntries = 297
 
 abbrev pub gridPlace : ℕ → ℕ
 gridPlace k = cond (ltb k 11) (k - 3) (k - 5)

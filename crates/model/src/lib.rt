@@ -166,6 +166,9 @@ pub mod kind {
     pub const RESEND: u8 = 14;
 
     pub const PURGE: u8 = 15;
+
+    // The last of them.
+    pub const LAST: u8 = PURGE;
 }
 
 // An event's mark, and an old side's authorization. [E1, V2]

@@ -11,6 +11,7 @@ use lib.ListN.{getD}
 use borrow.Author.Tests.{eqb-true, leb-true, leb-false, le-leb, ltb-true, not-false}
 use Rattle.systems.specs.Set.{member}
 use Rattle.model.specs.Books.{Books}
+use Rattle.model.specs.Kinds as kind
 use Rattle.model.specs.Record.{isPlain, isCreate, isAnswer, wellFormed, kindFits}
 use Rattle.model.specs.Sound.{apart, setsApart, retriesInRange, lastStatus}
 use Rattle.model.specs.Standing.{isGridKind}
@@ -214,7 +215,7 @@ plain-grid k h = go (leb 5 k && leb k 8) refl (eqb k 10) refl
     go true p b q = low p
     go false p true q = subst (λ (j : ℕ). isGridKind j ≡ true) (sym (eqb-true k 10 q)) refl
     go false p false q =
-        let r : (leb 13 k && leb k 15) ≡ true = rw (p, q) at h in
+        let r : (leb kind.windowRanOut k && leb k kind.last) ≡ true = rw (p, q) at h in
         ap (λ (z : Bool). (leb 3 k && leb k 10) || z) r ∙ or-true (leb 3 k && leb k 10)
 
 grid-formed : (e : Event) → wellFormed e ≡ true → isCreate (e .kind) ≡ false → isAnswer (e .kind) ≡ false → isGridKind (e .kind) ≡ true

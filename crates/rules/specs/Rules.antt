@@ -83,7 +83,7 @@ abbrev pub Settled : ℕ → Version → Seen → Rows → Type 0
 Settled i w lives r = (t rest : List Version) (free : Bool) → Holds t i (w .id) → Lives t lives rest
     → (changesOf r ≡ put (settled w) ∷ settles w rest) × Sits t free r
 
--- kinds 3 to 10 and 13 to 15 for v, at place i; a broadcast asks the selected
+-- any kind but creates and answers, for v at place i; a broadcast asks the selected
 abbrev pub Manages : ℕ → ℕ → Event → Version → Seen → Verdict → Type 0
 Manages selected i e v lives r =
     (bk : Books) → (isBroadcast (e .kind) ≡ true → selected ≡ selectedFor bk (v .id .tn)) → Settles (manages bk e v) i (v .id) lives r
