@@ -9,7 +9,8 @@ use borrow.Author.Tests.{eqb-true, not-false}
 use Rattle.model.specs.Versions.{recast, repurposed}
 use Rattle.model.specs.Basics.{among, iff, implies}
 use Rattle.model.specs.Numbers.{isTime}
-use Rattle.model.specs.Sound.{conflict, cancelPending, sending, failure, partialFailure, active, old, isWorked, isSending, needsNew, isStatus}
+use Rattle.model.specs.Sound.{conflict, cancelPending, sending, failure, partialFailure, active, old, isWorked, isSending, needsNew}
+use Rattle.model.specs.Sound.{isStatus}
 use Rattle.model.specs.Sound.{isPurposed, activate, sidesDiffer, newWhole, oldWhole, sidesNeeded, causeFits, setsApart, retriesFit}
 use Rattle.model.specs.Sound.{liveConfirmed, sends}
 use Rattle.model.specs.Closing.{open?, closeBy, closeTo, closed, retired}
@@ -117,7 +118,8 @@ close-kept s a b act m f k = go (eqb s 4) refl (eqb s 5) refl (eqb s 6) refl
     at : (n : ℕ) → eqb s n ≡ true → AtClose n a b act → AtClose s a b act
     at n e r = subst (λ (j : ℕ). AtClose j a b act) (sym (eqb-true s n e)) r
 
-    kept : (n : ℕ) → eqb s n ≡ true → eqb n old ≡ false → isStatus n ≡ true → isSending n ≡ false → isWorked n ≡ false → eqb n conflict ≡ false
+    kept : (n : ℕ) → eqb s n ≡ true → eqb n old ≡ false → isStatus n ≡ true → isSending n ≡ false → isWorked n ≡ false
+        → eqb n conflict ≡ false
         → eqb n cancelPending ≡ false → isPurposed n ≡ true → (x : Bool) → among n (partialFailure ∷ active ∷ []) ≡ x → AtClose n a b act
     kept n e n7 l n3 w n1 n2 u x y = record {
       small = l;

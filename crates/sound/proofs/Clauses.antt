@@ -9,7 +9,8 @@ use Rattle.model.specs.declared.Version.{Version}
 use Rattle.model.specs.Numbers.{tenDigits, isProvider, isSet, isTime, isNumber}
 use Rattle.model.proofs.Lists.{conj, conj-at, conj-all}
 use Rattle.model.specs.Basics.{none, with}
-use Rattle.model.specs.Sound.{retriesInRange, castInRange, inRange, sidesDiffer, newWhole, oldWhole, oneCreated, sidesNeeded, causeFits, isStatus}
+use Rattle.model.specs.Sound.{retriesInRange, castInRange, inRange, sidesDiffer, newWhole, oldWhole, oneCreated, sidesNeeded, causeFits}
+use Rattle.model.specs.Sound.{isStatus}
 use Rattle.model.specs.Sound.{cancellerFits, setsApart, retriesFit, startFits, waitingFits, purposeFits, liveFits, liveConfirmed}
 use Rattle.model.specs.Sound.{soundVersion}
 use Rattle.sound.specs.Marks.{marksFit}

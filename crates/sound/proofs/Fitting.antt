@@ -7,7 +7,8 @@ use native.Mathlib.Omega.{arith}
 use lib.Dec.{eqb, ltb}
 use lib.ListN.{getD}
 use Rattle.model.specs.Basics.{iff, implies, among, every}
-use Rattle.model.specs.Sound.{isPurposed, lastStatus, needsNew, conflict, cancelPending, failure, partialFailure, active, isSending, activate, disconnect}
+use Rattle.model.specs.Sound.{isPurposed, lastStatus, needsNew, conflict, cancelPending, failure, partialFailure, active, isSending}
+use Rattle.model.specs.Sound.{activate, disconnect}
 use Rattle.sound.specs.Marks.{fitBits}
 use Rattle.model.proofs.Lists.{conj-at}
 use Rattle.model.proofs.SoundSets.{every-at}
@@ -58,7 +59,8 @@ iff-same false false e = refl
 pub entry-rule : (s p : ℕ) (l n o : Bool) → s ≤ lastStatus → p ≤ disconnect → entry s p l n o ≡ rule s p l n o
 entry-rule s p l n o h k =
     let row : every (λ (q : ℕ). right (s + 1 - 1) (q - 1)) (suc disconnect) ≡ true =
-    every-at (λ (r : ℕ). every (λ (q : ℕ). right (r - 1) (q - 1)) (suc disconnect)) (suc lastStatus) (s + 1) computed (omega arith) (omega arith) in
+    every-at (λ (r : ℕ). every (λ (q : ℕ). right (r - 1) (q - 1)) (suc disconnect)) (suc lastStatus) (s + 1) computed
+    (omega arith) (omega arith) in
     let cell : right (s + 1 - 1) (p + 1 - 1) ≡ true =
     every-at (λ (q : ℕ). right (s + 1 - 1) (q - 1)) (suc disconnect) (p + 1) row (omega arith) (omega arith) in
     let a : s + 1 - 1 ≡ s = omega arith in
