@@ -8,7 +8,7 @@ ghost use mathlib.Core.Path.{_≡_};
 ghost use mathlib.Core.Bool.{_&&_};
 ghost use lib.Dec.{eqb};
 ghost use lib.ListN.{length};
-ghost use Rattle.model.specs.Numbers.{tenDigits};
+ghost use Rattle.model.specs.Numbers.{tenDigits, lastProvider};
 ghost use Rattle.model.specs.Selection.{classNumber};
 ghost use Rattle.books.specs.Packed.{soundBytes};
 ghost use Rattle.selection.specs.Classes.{classIn};
@@ -32,8 +32,8 @@ fn number(c: Class) -> u8
 
 // Provider p's number to place p - 1, for all of them.
 fn store(c: Classes, out: &mut [u8])
-    requires { ⌜ length (now out) ≡ 63 ⌝ }
-    ensures { λ _. ⌜ now (out .exit) ≡ numbersOf (classIn c) 63 ⌝ }
+    requires { ⌜ length (now out) ≡ lastProvider ⌝ }
+    ensures { λ _. ⌜ now (out .exit) ≡ numbersOf (classIn c) lastProvider ⌝ }
 {
     let mut i: usize = 0;
     while i < PLACES {
@@ -53,7 +53,7 @@ fn sound(l: Listed, books: &[u8]) -> bool
 
 // Whether it is a TN, with as many places as providers.
 fn formed(tn: Tn, places: usize) -> bool
-    ensures { λ r. ⌜ r ≡ (tenDigits (tn .0) && eqb places 63) ⌝ }
+    ensures { λ r. ⌜ r ≡ (tenDigits (tn .0) && eqb places lastProvider) ⌝ }
 {
     kinds::is_tn(tn) & (places == PLACES)
 }

@@ -6,6 +6,7 @@ use model::status;
 ghost use mathlib.Core.Path.{_≡_};
 ghost use mathlib.Core.Bool.{cond};
 ghost use lib.Dec.{eqb};
+ghost use Rattle.model.specs.Sound.{old};
 ghost use Rattle.model.specs.Closing.{open?, closeBy, closeTo, closed, retired, takesOver, settled};
 
 // Whether somebody is still asked.
@@ -53,7 +54,7 @@ fn close_to(c: Broadcast) -> u8
 
 // The purpose that is kept at the close.
 fn kept_purpose(status: u8, purpose: u8) -> u8
-    ensures { λ r. ⌜ r ≡ cond (eqb status 7) 0 purpose ⌝ }
+    ensures { λ r. ⌜ r ≡ cond (eqb status old) 0 purpose ⌝ }
 {
     if status == status::OLD {
         purpose::NONE

@@ -6,6 +6,7 @@ use mathlib.Core.List.{List, [], _∷_}
 use lib.Dec.{eqb, ltb, leb}
 use Rattle.model.specs.Numbers.{lastNumber}
 use Rattle.model.specs.Basics.{holds, isNone}
+use Rattle.model.specs.Kinds as kind
 use Rattle.model.specs.Record.{isBroadcast}
 use Rattle.model.specs.Sound.{failure}
 use Rattle.model.specs.Standing.{lacksStanding, wrongStatus}
@@ -66,8 +67,8 @@ answerFor e absent v = firstOf answerOrder (absent ∷ false ∷ not (awaited e 
 -- all others [O8]
 abbrev pub busyFor : Event → Facts → Version → Bool
 busyFor e f v =
-    cond (isBroadcast (e .kind)) (f .blocked || (eqb (e .kind) 14 && eqb (v .status) failure && ltb (v .id .number) (f .newest)))
-    (eqb (e .kind) 15 && leb (f .newest) (v .id .number))
+    cond (isBroadcast (e .kind)) (f .blocked || (eqb (e .kind) kind.resend && eqb (v .status) failure && ltb (v .id .number) (f .newest)))
+    (eqb (e .kind) kind.purge && leb (f .newest) (v .id .number))
 
 unfoldable pub otherFor : Event → Bool → Facts → Version → Outcome
 otherFor e absent f v =

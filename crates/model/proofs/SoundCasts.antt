@@ -10,7 +10,7 @@ use Rattle.model.specs.Versions.{recast, repurposed}
 use Rattle.model.specs.Basics.{among, iff, implies}
 use Rattle.model.specs.Numbers.{isTime}
 use Rattle.model.specs.Sound.{conflict, cancelPending, sending, failure, partialFailure, active, old, isWorked, isSending, needsNew}
-use Rattle.model.specs.Sound.{isStatus}
+use Rattle.model.specs.Sound.{isStatus, isLive}
 use Rattle.model.specs.Sound.{isPurposed, activate, sidesDiffer, newWhole, oldWhole, sidesNeeded, causeFits, setsApart, retriesFit}
 use Rattle.model.specs.Sound.{liveConfirmed, sends}
 use Rattle.model.specs.Closing.{open?, closeBy, closeTo, closed, retired}
@@ -91,9 +91,9 @@ pub record AtClose (s : ℕ) (a b act : Bool) : Type 0 where
   pub aims : (p : ℕ) → ltb 0 p ≡ true → iff (ltb 0 (cond (eqb s old) 0 p)) (isPurposed s) ≡ true
   pub activates : (p : ℕ) → eqb p activate ≡ act
       → implies (among s (failure ∷ partialFailure ∷ [])) (eqb (cond (eqb s old) 0 p) activate) ≡ true
-  pub live : iff (among s (partialFailure ∷ active ∷ [])) (among s (partialFailure ∷ active ∷ [])) ≡ true
+  pub live : iff (isLive s) (isLive s) ≡ true
   pub confirms : (p : ℕ) → eqb p activate ≡ act
-      → implies (among s (partialFailure ∷ active ∷ []) && eqb (cond (eqb s old) 0 p) activate) (not b || (true && a)) ≡ true
+      → implies (isLive s && eqb (cond (eqb s old) 0 p) activate) (not b || (true && a)) ≡ true
 
 close-old : (a b act : Bool) → AtClose old a b act
 close-old a b act = record {
@@ -112,7 +112,7 @@ close-old a b act = record {
 -- every other status at the close keeps the purpose
 close-kept : (s : ℕ) (a b act : Bool) → among s (failure ∷ partialFailure ∷ active ∷ []) ≡ true
     → implies (among s (failure ∷ partialFailure ∷ [])) act ≡ true
-    → implies (among s (partialFailure ∷ active ∷ []) && act) (not b || (true && a)) ≡ true → AtClose s a b act
+    → implies (isLive s && act) (not b || (true && a)) ≡ true → AtClose s a b act
 close-kept s a b act m f k = go (eqb s 4) refl (eqb s 5) refl (eqb s 6) refl
   where
     at : (n : ℕ) → eqb s n ≡ true → AtClose n a b act → AtClose s a b act
@@ -120,7 +120,7 @@ close-kept s a b act m f k = go (eqb s 4) refl (eqb s 5) refl (eqb s 6) refl
 
     kept : (n : ℕ) → eqb s n ≡ true → eqb n old ≡ false → isStatus n ≡ true → isSending n ≡ false → isWorked n ≡ false
         → eqb n conflict ≡ false
-        → eqb n cancelPending ≡ false → isPurposed n ≡ true → (x : Bool) → among n (partialFailure ∷ active ∷ []) ≡ x → AtClose n a b act
+        → eqb n cancelPending ≡ false → isPurposed n ≡ true → (x : Bool) → isLive n ≡ x → AtClose n a b act
     kept n e n7 l n3 w n1 n2 u x y = record {
       small = l;
       not-sending = n3;
@@ -132,7 +132,7 @@ close-kept s a b act m f k = go (eqb s 4) refl (eqb s 5) refl (eqb s 6) refl
       activates = λ p h. rw (n7, h) (subst (λ (j : ℕ). implies (among j (failure ∷ partialFailure ∷ [])) act ≡ true) (eqb-true s n e) f);
       live = rw y (same x);
       confirms = λ p h. rw (n7, h)
-          (subst (λ (j : ℕ). implies (among j (partialFailure ∷ active ∷ []) && act) (not b || (true && a)) ≡ true) (eqb-true s n e) k);
+          (subst (λ (j : ℕ). implies (isLive j && act) (not b || (true && a)) ≡ true) (eqb-true s n e) k);
     }
       where
         same : (z : Bool) → iff z z ≡ true
@@ -191,7 +191,7 @@ row-closed w c o = go (closeTo (w .cast)) (at-closed (w .cast))
         turned false b q = ap not q
 
     go : (s : ℕ) → AtClose s (eqb (w .cast .failed) 0) (eqb (w .cast .confirmed) 0) (eqb (w .cast .purpose) activate)
-        → Row (recast w s (w .stamp) (among s (partialFailure ∷ active ∷ [])) (w .new) (ended s (w .cast)))
+        → Row (recast w s (w .stamp) (isLive s) (w .new) (ended s (w .cast)))
     go s a = record {
       ranges = record {
         tn = c .ranges .tn;
@@ -233,14 +233,14 @@ row-closed w c o = go (closeTo (w .cast)) (at-closed (w .cast))
 -- ---- the live version that a close retires
 
 -- a live version that is not sending is in partial-failure or active
-pub live-status : (x : Version) → Row x → x .live ≡ true → sends x ≡ false → among (x .status) (partialFailure ∷ active ∷ []) ≡ true
-live-status x row l n = is (among (x .status) (partialFailure ∷ active ∷ [])) (rw (n, l) at (row .live))
+pub live-status : (x : Version) → Row x → x .live ≡ true → sends x ≡ false → isLive (x .status) ≡ true
+live-status x row l n = is (isLive (x .status)) (rw (n, l) at (row .live))
   where
     is : (b : Bool) → iff true b ≡ true → b ≡ true
     is b h = h
 
 -- what partial-failure and active are, and are not
-settled-status : (s : ℕ) → among s (partialFailure ∷ active ∷ []) ≡ true → (isPurposed s ≡ true) × (eqb s cancelPending ≡ false)
+settled-status : (s : ℕ) → isLive s ≡ true → (isPurposed s ≡ true) × (eqb s cancelPending ≡ false)
 settled-status s h = go (eqb s 5) refl (eqb s 6) refl
   where
     at : (n : ℕ) → eqb s n ≡ true → (isPurposed n ≡ true) × (eqb n cancelPending ≡ false) → (isPurposed s ≡ true)

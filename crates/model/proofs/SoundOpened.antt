@@ -12,7 +12,7 @@ use Rattle.model.specs.Basics.{among, iff, implies}
 use Rattle.model.specs.Numbers.{tenDigits, isTime, isProvider, isSet}
 use Rattle.model.specs.Retries.{used, noRetries}
 use Rattle.model.specs.Sound.{pending, cancelPending, failure, partialFailure, active, isPurposed, isSending, activate, modify}
-use Rattle.model.specs.Sound.{disconnect, newWhole, retriesFit, retriesInRange}
+use Rattle.model.specs.Sound.{disconnect, isLive, newWhole, retriesFit, retriesInRange}
 use Rattle.model.specs.Record.{isBroadcast, named, unused, wellFormed}
 use Rattle.model.specs.Standing.{standingOf, standsFor, statusFor}
 use Rattle.model.specs.Broadcast.{resends, purposeFor, askedFor, newFor, opened}
@@ -72,13 +72,13 @@ module _ (selected : ℕ) (set : isSet selected ≡ true) (e : Event) (formed : 
   live-active q =
       iff-true (v .live) (at-equal (v .status) 6
       (λ (s : ℕ). cond (isSending s) (v .live || eqb (v .cast .purpose) activate)
-      (iff (v .live) (among s (partialFailure ∷ active ∷ []))) ≡ true) q (row .live))
+      (iff (v .live) (isLive s)) ≡ true) q (row .live))
 
   not-live : eqb (v .status) pending ≡ true → v .live ≡ false
   not-live q =
       iff-false (v .live) (at-equal (v .status) 0
       (λ (s : ℕ). cond (isSending s) (v .live || eqb (v .cast .purpose) activate)
-      (iff (v .live) (among s (partialFailure ∷ active ∷ []))) ≡ true) q (row .live))
+      (iff (v .live) (isLive s)) ≡ true) q (row .live))
 
   -- what the purpose, the confirmed and the asked must be
   record Aim (purpose confirmed waiting : ℕ) : Type 0 where

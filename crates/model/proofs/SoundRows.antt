@@ -10,8 +10,8 @@ use borrow.Author.Tests.{eqb-true}
 use Rattle.model.specs.Versions.{restated}
 use Rattle.model.specs.Basics.{among, iff, implies, none, with}
 use Rattle.model.specs.Numbers.{tenDigits, isNumber, isTime, isProvider, isSet}
-use Rattle.model.specs.Sound.{pending, conflict, cancelPending, failure, partialFailure, active, old, canceled, isWorked, isSending}
-use Rattle.model.specs.Sound.{needsNew, isStatus}
+use Rattle.model.specs.Sound.{pending, conflict, cancelPending, failure, partialFailure, old, canceled, isWorked, isSending}
+use Rattle.model.specs.Sound.{needsNew, isStatus, isLive}
 use Rattle.model.specs.Sound.{isPurposed, inRange, castInRange, retriesInRange, sidesDiffer, newWhole, oldWhole, oneCreated}
 use Rattle.model.specs.Sound.{sidesNeeded, causeFits, cancellerFits, setsApart, retriesFit, startFits, waitingFits, purposeFits}
 use Rattle.model.specs.Sound.{liveFits, liveConfirmed, soundVersion}
@@ -136,7 +136,7 @@ pub record Calm (s : ℕ) : Type 0 where
   pub no3 : isSending s ≡ false
   pub aimless : isPurposed s ≡ false
   pub no45 : among s (failure ∷ partialFailure ∷ []) ≡ false
-  pub no56 : among s (partialFailure ∷ active ∷ []) ≡ false
+  pub no56 : isLive s ≡ false
   pub alone : needsNew s ≡ false
   pub small : isStatus s ≡ true
 

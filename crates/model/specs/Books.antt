@@ -87,6 +87,16 @@ unfoldable pub soundMarks : Marks → Bool
 soundMarks m =
     isSet (m .present) && isSet (m .local) && every (λ (p : ℕ). implies (member (m .local) p) (member (m .present) p)) lastProvider
 
+-- the most codes, filters and pairs
+abbrev pub mostCodes : ℕ
+mostCodes = 1024
+
+abbrev pub mostFilters : ℕ
+mostFilters = 1024
+
+abbrev pub mostPairs : ℕ
+mostPairs = 64
+
 -- the codes stand strictly above c
 abbrev pub codesAbove : ℕ → List Owned → Bool
 codesAbove c [] = true
@@ -95,7 +105,7 @@ codesAbove c (x ∷ xs) = ltb c (x .code) && codesAbove (x .code) xs
 -- Code list: at most 1,024, strictly rising, each owned by a present provider. [B2]
 unfoldable pub soundCodes : Marks → List Owned → Bool
 soundCodes m xs =
-    leb (length xs) 1024 && codesAbove 0 xs
+    leb (length xs) mostCodes && codesAbove 0 xs
     && all (λ (x : Owned). isCode (x .code) && isProvider (x .owner) && member (m .present) (x .owner)) xs
 
 -- the filters stand strictly above (p, c), by provider and then code
@@ -107,7 +117,7 @@ filtersAbove p c (x ∷ xs) =
 -- Filter list: at most 1,024 pairs (present provider, code), strictly rising. [B3]
 unfoldable pub soundFilters : Marks → List Filter → Bool
 soundFilters m xs =
-    leb (length xs) 1024 && filtersAbove 0 0 xs
+    leb (length xs) mostFilters && filtersAbove 0 0 xs
     && all (λ (x : Filter). isProvider (x .provider) && member (m .present) (x .provider) && isCode (x .code)) xs
 
 -- the code stands in no pair
@@ -120,7 +130,7 @@ splitOnce (x ∷ xs) = not (eqb (x .one) (x .other)) && unsplit (x .one) xs && u
 
 -- Split list: at most 64 pairs of codes, no code twice. [B4]
 unfoldable pub soundSplits : List Split → Bool
-soundSplits xs = leb (length xs) 64 && splitOnce xs && all (λ (x : Split). isCode (x .one) && isCode (x .other)) xs
+soundSplits xs = leb (length xs) mostPairs && splitOnce xs && all (λ (x : Split). isCode (x .one) && isCode (x .other)) xs
 
 unfoldable pub soundBooks : Books → Bool
 soundBooks bk =

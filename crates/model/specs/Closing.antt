@@ -2,12 +2,12 @@
 -- Assumes nothing.
 use Prim.Native.Nat.{ℕ}
 use mathlib.Core.Bool.{Bool, false, cond, not, _&&_}
-use mathlib.Core.List.{List, [], _∷_, map}
+use mathlib.Core.List.{List, [], map}
 use lib.Dec.{eqb}
-use Rattle.model.specs.Basics.{keep, among}
+use Rattle.model.specs.Basics.{keep}
 use Rattle.model.specs.Table.{Change, put}
 use Rattle.model.specs.Versions.{recast, repurposed}
-use Rattle.model.specs.Sound.{failure, partialFailure, active, old, activate, disconnect, live}
+use Rattle.model.specs.Sound.{failure, partialFailure, active, old, activate, disconnect, isLive, live}
 use Rattle.model.specs.Tray.{noLrn, toSoas, toldAtClose}
 use Rattle.model.specs.Tray as tray
 use Rattle.model.specs.declared.Broadcast.{Broadcast}
@@ -34,7 +34,7 @@ closeTo c = closeBy (eqb (c .failed) 0) (eqb (c .confirmed) 0) (eqb (c .purpose)
 -- The start is cleared; turning old clears live and purpose; the rest stays. [W3, U2]
 unfoldable pub closed : Version → Version
 closed v =
-    recast v (closeTo (v .cast)) (v .stamp) (among (closeTo (v .cast)) (partialFailure ∷ active ∷ [])) (v .new)
+    recast v (closeTo (v .cast)) (v .stamp) (isLive (closeTo (v .cast))) (v .new)
     (repurposed (v .cast) (cond (eqb (closeTo (v .cast)) old) 0 (v .cast .purpose)) 0)
 
 -- Any other live version becomes old with the closing version's stamp. [W4]

@@ -63,6 +63,10 @@ isSending s = eqb s sending
 abbrev pub isPurposed : ℕ → Bool
 isPurposed s = among s (sending ∷ failure ∷ partialFailure ∷ active ∷ [])
 
+-- the statuses in which a version is live; in sending it may be
+abbrev pub isLive : ℕ → Bool
+isLive s = among s (partialFailure ∷ active ∷ [])
+
 -- the statuses that a version comes to only with the new side
 abbrev pub needsNew : ℕ → Bool
 needsNew s = isPurposed s || eqb s old
@@ -164,7 +168,7 @@ purposeFits v =
 abbrev pub liveFits : Version → Bool
 liveFits v =
     cond (isSending (v .status)) (v .live || eqb (v .cast .purpose) activate)
-    (iff (v .live) (among (v .status) (partialFailure ∷ active ∷ [])))
+    (iff (v .live) (isLive (v .status)))
 
 -- a live version with purpose activate has a confirmed system, or neither waiting nor failed ones [V10]
 abbrev pub liveConfirmed : Version → Bool

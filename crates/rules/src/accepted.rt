@@ -121,7 +121,7 @@ fn settled(i: usize, w: Version, lives: Seen) -> Rows
 
 // w in a broadcast that starts: downloads, or all that its close brings.
 fn cast(i: usize, w: Version, lives: Seen) -> Verdict
-    requires { ⌜ w .cast .purpose ≤ 3 ⌝ }
+    requires { ⌜ w .cast .purpose ≤ disconnect ⌝ }
     ensures { λ r. ⌜ Settles (broadcastOf w) i (w .id) lives r ⌝ }
 {
     let rows = settled(i, w, lives);

@@ -10,6 +10,7 @@ ghost use mathlib.Core.Path.{_≡_};
 ghost use mathlib.Core.List.{[], _∷_};
 ghost use Prim.Native.Nat.{_≤_};
 ghost use mathlib.Core.Bool.{false};
+ghost use Rattle.model.specs.Sound.{disconnect};
 ghost use Rattle.model.specs.Tray.{message, toSoas, sidesTold, downloadTo};
 ghost use Rattle.model.specs.Closing.{closingTold};
 ghost use Rattle.verdict.specs.Verdict.{runOf};
@@ -54,7 +55,7 @@ pub fn side(w: Version, provider: u8, sort: u8, failed: u64, lrn: Lrn) -> Run
 
 // The download of w, to Local SMSs.
 pub fn download(w: Version, to: To) -> Run
-    requires { ⌜ w .cast .purpose ≤ 3 ⌝ }
+    requires { ⌜ w .cast .purpose ≤ disconnect ⌝ }
     ensures { λ r. ⌜ r ≡ record { say = downloadTo w 0; to = to } ⌝ }
 {
     let id = w.id;

@@ -7,7 +7,7 @@ use lib.Dec.{eqb, ltb}
 use lib.ListN.{length}
 use Rattle.model.specs.Numbers.{lastProvider}
 use Rattle.systems.specs.Set.{maskOf}
-use Rattle.model.specs.Books.{Books, partnerOf}
+use Rattle.model.specs.Books.{Books, partnerOf, mostFilters}
 use Rattle.model.specs.Selection.{selects}
 use Rattle.selection.specs.declared.Pass.{Pass}
 
@@ -31,4 +31,4 @@ pub record Passed (bk : Books) (code : ℕ) (r : Pass) : Type 0 where
 
 -- so many at the most, with every place used
 abbrev pub mostLooks : ℕ
-mostLooks = 1024 + lastProvider
+mostLooks = mostFilters + lastProvider

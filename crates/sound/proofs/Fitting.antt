@@ -7,8 +7,8 @@ use native.Mathlib.Omega.{arith}
 use lib.Dec.{eqb, ltb}
 use lib.ListN.{getD}
 use Rattle.model.specs.Basics.{iff, implies, among, every}
-use Rattle.model.specs.Sound.{isPurposed, lastStatus, needsNew, conflict, cancelPending, failure, partialFailure, active, isSending}
-use Rattle.model.specs.Sound.{activate, disconnect}
+use Rattle.model.specs.Sound.{isPurposed, lastStatus, needsNew, conflict, cancelPending, failure, partialFailure, isSending}
+use Rattle.model.specs.Sound.{activate, disconnect, isLive}
 use Rattle.sound.specs.Marks.{fitBits}
 use Rattle.model.proofs.Lists.{conj-at}
 use Rattle.model.proofs.SoundSets.{every-at}
@@ -18,7 +18,7 @@ abbrev pub rule : ℕ → ℕ → Bool → Bool → Bool → Bool
 rule s p l n o =
     (n || o) && (implies (eqb s conflict) o && implies (eqb s cancelPending) (n && o) && implies (needsNew s) n)
     && (iff (ltb 0 p) (isPurposed s) && implies (among s (failure ∷ partialFailure ∷ [])) (eqb p activate))
-    && cond (isSending s) (l || eqb p activate) (iff l (among s (partialFailure ∷ active ∷ [])))
+    && cond (isSending s) (l || eqb p activate) (iff l (isLive s))
 
 abbrev pub entry : ℕ → ℕ → Bool → Bool → Bool → Bool
 entry s p l n o = eqb (getD fitBits s 0 / 2 ^ (p * 8 + cond l 1 0 * 4 + cond n 1 0 * 2 + cond o 1 0) % 2) 1
