@@ -60,32 +60,6 @@ digits-be xs h (suc n) at l =
     ∙ ap (λ (k : ℕ). take n (drop at xs) ++ (k ∷ [])) (sym (getD-drop at xs n 0))
     ∙ sym (take-suc (drop at xs) n 0 m)
 
--- the same list, a byte at a time from the last: what the code does
-unfoldable pub puts : ℕ → List ℕ → ℕ → ℕ → List ℕ
-puts zero xs at v = xs
-puts (suc n) xs at v = puts n (set xs (at + n) (v % 256)) at (v / 256)
-
-pub puts-put : (n : ℕ) (xs : List ℕ) (at v : ℕ) → at + n ≤ length xs → puts n xs at v ≡ put n xs at v
-unfolding puts put digits
-puts-put zero xs at v l =
-    sym (ap (λ (k : ℕ). take at xs ++ [] ++ drop k xs) (add-zero at) ∙ ap (λ (r : List ℕ). r ++ drop at xs) (append-nil (take at xs))
-    ∙ take-append-drop at xs)
-puts-put (suc n) xs at v l =
-    let b : ℕ = v % 256 in
-    let ys : List ℕ = set xs (at + n) b in
-    let d : List ℕ = digits n (v / 256) in
-    let i : at + n < length xs = omega arith in
-    let j : at + n < length ys = simp length-set i in
-    let r : at + n ≤ length ys = omega arith in
-    puts-put n ys at (v / 256) r
-    ∙ ap (λ (t : List ℕ). t ++ d ++ drop (at + n) ys) (take-set-le at xs (at + n) b (le-add-right at n))
-    ∙ ap (λ (t : List ℕ). take at xs ++ d ++ t)
-    (drop-cons ys (at + n) 0 j
-    ∙ ap (λ (k : ℕ). k ∷ drop (suc (at + n)) ys) (getD-set-same xs (at + n) b 0 i)
-    ∙ ap (λ (t : List ℕ). b ∷ t) (drop-set-lt (suc (at + n)) xs (at + n) b (le-refl (suc (at + n)))
-    ∙ ap (λ (k : ℕ). drop k xs) (sym (add-suc at n))))
-    ∙ sym (regroup (take at xs) d b (drop (at + suc n) xs))
-
 -- up to 8 bytes fit a u64
 pub be-word : (xs : List ℕ) → Bytes xs → (n at : ℕ) → n ≤ 8 → be n xs at < 2 ^ 64
 be-word xs h n at l = lt-of-lt-of-le (be-lt xs h n at) (pow-le-pow-right (zero-lt-suc 255) l)

@@ -73,24 +73,26 @@ pub fn u32_at(s: &[u8], at: usize) -> u64
     b0 * 0x1000000 + b1 * 0x10000 + b2 * 0x100 + b3
 }
 
-// The eight bytes from `at` become v.
+// The eight bytes from `at` become v. Turned first and stored in the order that the processor has: so it is one turn and one store wherever
+// it is called from; stored the highest byte first it is compiled to eight stores.
 pub fn put_u64(s: &mut [u8], at: usize, v: u64)
     requires { ⌜ at + 8 ≤ length (now s) ⌝ }
     ensures { λ _. ⌜ now (s .exit) ≡ put 8 (now (s .entry)) at v ⌝ }
 {
-    s[at + 7] = (v % 256) as u8;
-    let v1 = v / 256;
-    s[at + 6] = (v1 % 256) as u8;
-    let v2 = v1 / 256;
-    s[at + 5] = (v2 % 256) as u8;
-    let v3 = v2 / 256;
-    s[at + 4] = (v3 % 256) as u8;
-    let v4 = v3 / 256;
-    s[at + 3] = (v4 % 256) as u8;
-    let v5 = v4 / 256;
-    s[at + 2] = (v5 % 256) as u8;
-    let v6 = v5 / 256;
-    s[at + 1] = (v6 % 256) as u8;
-    let v7 = v6 / 256;
-    s[at] = (v7 % 256) as u8;
+    let w = turn(v);
+    s[at] = (w % 256) as u8;
+    let w1 = w / 256;
+    s[at + 1] = (w1 % 256) as u8;
+    let w2 = w1 / 256;
+    s[at + 2] = (w2 % 256) as u8;
+    let w3 = w2 / 256;
+    s[at + 3] = (w3 % 256) as u8;
+    let w4 = w3 / 256;
+    s[at + 4] = (w4 % 256) as u8;
+    let w5 = w4 / 256;
+    s[at + 5] = (w5 % 256) as u8;
+    let w6 = w5 / 256;
+    s[at + 6] = (w6 % 256) as u8;
+    let w7 = w6 / 256;
+    s[at + 7] = (w7 % 256) as u8;
 }
