@@ -3,11 +3,11 @@
 use mathlib.Core.Path.{_≡_, refl, sym, ap, _∙_}
 use mathlib.Core.List.{List, [], _∷_, _++_, append-assoc, append-nil}
 use Prim.Native.Nat.{ℕ, zero, suc, _+_, _-_, _*_, _/_, _%_, _^_, _<_, _≤_}
-use native.Mathlib.Nat.{add-zero, add-suc, pow-suc, le-add-right, mod-lt, lt-of-lt-of-le, le-refl, zero-lt-suc, pow-le-pow-right, mul-one}
+use native.Mathlib.Nat.{add-zero, add-suc, pow-suc, mod-lt, lt-of-lt-of-le, zero-lt-suc, pow-le-pow-right, mul-one}
 use native.Mathlib.Nat.{add-mul, mul-assoc, add-assoc, div-lt-iff-lt-mul}
 use native.Mathlib.Omega.{arith}
-use lib.ListN.{length, getD, take, drop, set, length-set, length-append, length-drop, take-append-drop}
-use lib.Seq.{take-suc, drop-cons, getD-set-same, take-set-le, drop-set-lt, getD-at, getD-drop, take-at, drop-append-add}
+use lib.ListN.{length, getD, take, drop, length-append, length-drop}
+use lib.Seq.{take-suc, getD-at, getD-drop, take-at, drop-append-add}
 use lib.Arith.{digits-lt, digits-div, digits-mod, mod-mul}
 use Rattle.octets.specs.Octets.{Bytes, be, digits, put}
 

@@ -1,4 +1,5 @@
--- Bytes read in the one order and turned are the bytes read in the other; a number turned and stored in the one order is stored in the other.
+-- Bytes read in the one order and turned are the bytes read in the other, and a number turned and stored in the one order is stored in the
+-- other.
 -- Assumes nothing.
 use mathlib.Core.Path.{_≡_, refl, sym, ap, ap₂, _∙_}
 use mathlib.Core.List.{List, [], _∷_, _++_, append-assoc, append-nil}
