@@ -2,7 +2,7 @@
 -- Assumes nothing.
 use mathlib.Core.Path.{_≡_, refl, sym, ap, _∙_}
 use mathlib.Core.Bool.{Bool, true, false, _&&_}
-use mathlib.Core.List.{List, _++_, append-nil}
+use mathlib.Core.List.{List, [], _∷_, _++_, append-nil}
 use Prim.Native.Nat.{ℕ, _<_}
 use native.Mathlib.Nat.{zero-add, le-of-eq}
 use native.Mathlib.Omega.{arith}
@@ -14,7 +14,7 @@ use Rattle.model.specs.declared.Event.{Event}
 use Rattle.model.specs.declared.Reading.{Reading}
 use Rattle.model.specs.declared.Reading.the-variants.{Record, Malformed}
 use Rattle.model.specs.Numbers.{tenDigits}
-use Rattle.model.specs.Record.{named, kindFits, fitsBits, wellFormed}
+use Rattle.model.specs.Record.{named, typeFits, kindFits, fitsBits, wellFormed}
 use Rattle.packing.specs.Layout.{tenOf, eventOf, Written}
 use Rattle.packing.proofs.Inverse.{bits-at, said-done}
 use Rattle.record.proofs.Codec.{refused-fields}
@@ -50,14 +50,14 @@ unfolding handedTo handedNumber
 handed-is r e xs ys n q l h =
     (h .after ∙ rw q (simp (eq-eqb (length xs) 10 l)), h .said ∙ rw q (simp (eq-eqb (length xs) 10 l)))
 
--- a reading that says 0 was of a record, and handed it over
-pub handed-done : (r : Reading) (xs ys : List ℕ) → Handed r xs ys 0 → r ≡ Record (eventOf ys)
+-- a reading that says 0 was of a record, and handed it over; the version type, which no record has, is not among the fields
+pub handed-done : (r : Reading) (xs ys : List ℕ) → ((e : Event) → r ≡ Record e → e .within ≡ 0) → Handed r xs ys 0 → r ≡ Record (eventOf ys)
 unfolding handedTo handedNumber
-handed-done (Record e) xs ys h =
+handed-done (Record e) xs ys z h =
     let b : eqb (length xs) 10 ≡ true = said-done (eqb (length xs) 10) (h .said) in
     let p : ys ≡ tenOf e = h .after ∙ simp b in
-    ap (λ (l : List ℕ). Record (eventOf l)) (sym p)
-handed-done Malformed xs ys h = absurd (omega (arith, h .said))
+    ap (λ (n : ℕ). Record (eventOf (tenOf e ++ (n ∷ [])))) (z e refl) ∙ ap (λ (l : List ℕ). Record (eventOf l)) (sym p)
+handed-done Malformed xs ys z h = absurd (omega (arith, h .said))
 
 -- ---- writing
 
@@ -84,4 +84,4 @@ narrow e b q f =
 pub wide-refused : (e : Event) (xs : List ℕ) (b : Bool) → b ≡ fitsBits e → b ≡ false → Written e xs xs 2
 unfolding wellFormed
 wide-refused e xs b q f =
-    refused-fields e xs (ap (λ (k : Bool). k && tenDigits (e .tn .0) && named (e .time) && kindFits e) (sym q ∙ f))
+    refused-fields e xs (ap (λ (k : Bool). k && tenDigits (e .tn .0) && named (e .time) && typeFits e && kindFits e) (sym q ∙ f))

@@ -97,6 +97,7 @@ fn narrowed(
         version: version as u16,
         time: time as u32,
         due: due as u32,
+        within: 0,
     }
 }
 

@@ -3,7 +3,7 @@ ghost use mathlib.Core.Path.{_≡_};
 ghost use Rattle.model.specs.Numbers.{tenDigits};
 ghost use Rattle.model.specs.Record.{twoSides, authorizes as authorizesWith, newCreates, oldCreates, newModifies, oldModifies};
 ghost use Rattle.model.specs.Record.{modifiesActive, replies as repliesTo, silent as silentOf, plainly as plainlyOf, kindFits, fitsBits};
-ghost use Rattle.model.specs.Record.{wellFormed};
+ghost use Rattle.model.specs.Record.{typeFits, wellFormed};
 use model::Event;
 use model::Lrn;
 use model::Tn;
@@ -156,10 +156,18 @@ fn fits_bits(e: Event) -> bool
         & (e.mark < 4)
         & (e.tn.0 < 0x4_0000_0000)
         & (e.lrn.0 < 0x4_0000_0000)
+        & (e.within < 2)
+}
+
+// No kind takes the version type.
+fn type_fits(e: Event) -> bool
+    ensures { λ r. ⌜ r ≡ typeFits e ⌝ }
+{
+    e.within == 0
 }
 
 pub fn well_formed(e: Event) -> bool
     ensures { λ r. ⌜ r ≡ wellFormed e ⌝ }
 {
-    fits_bits(e) & is_tn(e.tn) & (0 < e.time) & kind_fits(e)
+    fits_bits(e) & is_tn(e.tn) & (0 < e.time) & type_fits(e) & kind_fits(e)
 }

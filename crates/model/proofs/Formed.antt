@@ -9,7 +9,7 @@ use lib.ListN.{getD}
 use borrow.Author.Tests.{eqb-true, ltb-true}
 use Rattle.model.specs.Numbers.{tenDigits}
 use Rattle.model.specs.Record.{isPlain, isAnswer, named, unused, results, plainly, newCreates, oldCreates, newModifies, oldModifies}
-use Rattle.model.specs.Record.{modifiesActive, replies, silent, kindFits, fitsBits, wellFormed}
+use Rattle.model.specs.Record.{modifiesActive, replies, silent, typeFits, kindFits, fitsBits, wellFormed}
 use Rattle.model.specs.Answers.{answering}
 use Rattle.model.proofs.Lists.{clash, conj-at}
 use Rattle.model.specs.declared.Event.{Event}
@@ -23,6 +23,7 @@ pub record Fields (e : Event) : Type 0 where
   pub due : e .due < 2 ^ 32
   pub timed : 0 < e .time
   pub number : tenDigits (e .tn .0) ≡ true
+  pub type : typeFits e ≡ true
   pub kind : kindFits e ≡ true
 
 -- what kind k asks
@@ -41,11 +42,11 @@ module _ (e : Event) (h : wellFormed e ≡ true) where
   pub fields : Fields e
   unfolding wellFormed fitsBits
   fields =
-      let all : List Bool = fitsBits e ∷ tenDigits (e .tn .0) ∷ named (e .time) ∷ kindFits e ∷ [] in
+      let all : List Bool = fitsBits e ∷ tenDigits (e .tn .0) ∷ named (e .time) ∷ typeFits e ∷ kindFits e ∷ [] in
       let bits : List Bool =
       ltb (e .kind) (2 ^ 8) ∷ ltb (e .sender) (2 ^ 6) ∷ ltb (e .other) (2 ^ 6) ∷ ltb (e .mark) (2 ^ 2) ∷ ltb (e .cause) (2 ^ 8)
       ∷ ltb (e .tn .0) (2 ^ 34) ∷ ltb (e .lrn .0) (2 ^ 34) ∷ ltb (e .version) (2 ^ 16) ∷ ltb (e .time) (2 ^ 32)
-      ∷ ltb (e .due) (2 ^ 32) ∷ [] in
+      ∷ ltb (e .due) (2 ^ 32) ∷ ltb (e .within) (2 ^ 1) ∷ [] in
       let of : (i : ℕ) → getD all i true ≡ true = conj-at all h in
       let bit : (i : ℕ) → getD bits i true ≡ true = conj-at bits (of 0) in
       record {
@@ -57,7 +58,8 @@ module _ (e : Event) (h : wellFormed e ≡ true) where
         due = ltb-true (e .due) (2 ^ 32) (bit 9);
         timed = ltb-true 0 (e .time) (of 2);
         number = of 1;
-        kind = of 3;
+        type = of 3;
+        kind = of 4;
       }
 
   pub at-kind : (k : ℕ) → e .kind ≡ k → fitsAt k e ≡ true

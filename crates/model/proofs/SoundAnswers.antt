@@ -181,6 +181,7 @@ module _ (most : ℕ) (small : most ≤ 7) (e : Event) (v : Version) (row : Row 
         (and-l (iff (ltb 0 (v .cast .purpose)) (isPurposed (v .status))) _ (row .purpose)));
     lasting = rw is-sending at (row .live);
     confirmed = more (v .live && eqb (v .cast .purpose) activate) (not (again most e (v .cast)) && succeeds e) (row .confirmed);
+    within = row .within;
   }
     where
       parts : Parted (v .cast)

@@ -12,7 +12,7 @@ use Rattle.model.specs.Numbers.{isTime}
 use Rattle.model.specs.Sound.{conflict, cancelPending, sending, failure, partialFailure, active, old, isWorked, isSending, needsNew}
 use Rattle.model.specs.Sound.{isStatus, isLive}
 use Rattle.model.specs.Sound.{isPurposed, activate, sidesDiffer, newWhole, oldWhole, sidesNeeded, causeFits, setsApart, retriesFit}
-use Rattle.model.specs.Sound.{liveConfirmed, sends}
+use Rattle.model.specs.Sound.{liveConfirmed, withinFits, sends}
 use Rattle.model.specs.Closing.{open?, closeBy, closeTo, closed, retired}
 use Rattle.model.proofs.Lists.{clash, and-r, both-true, or-l, iff-false, back-equal}
 use Rattle.model.proofs.SoundRows.{CastRanges, cast-ranges, ranges-cast, Ranges, Row}
@@ -36,6 +36,7 @@ pub record Casting (w : Version) : Type 0 where
   pub aimed : ltb 0 (w .cast .purpose) ≡ true
   pub lasting : (w .live || eqb (w .cast .purpose) activate) ≡ true
   pub confirmed : liveConfirmed w ≡ true
+  pub within : withinFits w ≡ true
 
 at-sending : (P : ℕ → Type 0) (s : ℕ) → isSending s ≡ true → P sending → P s
 at-sending P s h p = subst P (sym (eqb-true s sending h)) p
@@ -76,6 +77,7 @@ row-open w c o = record {
       (w .status) (c .sending) (rw (c .aimed));
   live = rw (c .sending) (c .lasting);
   confirmed = c .confirmed;
+  within = c .within;
 }
 
 -- ---- the close
@@ -224,6 +226,7 @@ row-closed w c o = go (closeTo (w .cast)) (at-closed (w .cast))
       purpose = both-true _ _ (a .aims (w .cast .purpose) (c .aimed)) (a .activates (w .cast .purpose) refl);
       live = rw (a .not-sending) (a .live);
       confirmed = rw (some-confirmed (eqb (w .cast .confirmed) 0) refl, empty) (a .confirms (w .cast .purpose) refl);
+      within = c .within;
     }
       where
         need : (x : Bool) → w .new .created ≡ true → implies x (w .new .created) ≡ true
@@ -310,4 +313,5 @@ row-retired stamp x time row l n =
       purpose = refl;
       live = refl;
       confirmed = refl;
+      within = row .within;
     }

@@ -49,8 +49,8 @@ blank id status stamp new old =
       new = new;
       old = old;
       canceller = 0;
-      window =
-          false;
+      window = false;
+      within = false;
       cast = noBroadcast;
     }
 
@@ -77,6 +77,7 @@ blank-row id s t n o tn number time pn po d wn wo c one q no2 clashes = record {
   purpose = rw (q .aimless, q .no45);
   live = rw (q .no3, q .no56);
   confirmed = refl;
+  within = refl;
 }
 
 provider-is : (p : ℕ) → named p ≡ true → p < 64 → isProvider p ≡ true

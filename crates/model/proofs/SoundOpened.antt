@@ -277,6 +277,7 @@ module _ (selected : ℕ) (set : isSet selected ≡ true) (e : Event) (formed : 
         aimed = aim .some;
         lasting = aim .lasting;
         confirmed = aim .confirms;
+        within = row .within;
       }
     where
       none-in : (s : ℕ) → Apart s 0

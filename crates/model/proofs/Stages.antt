@@ -60,7 +60,8 @@ abbrev pub sameRow : Version → Version → Bool
 sameRow a b =
     sameId (a .id) (b .id) && eqb (a .status) (b .status) && eqb (a .stamp) (b .stamp) && iff (a .live) (b .live)
     && sameNew (a .new) (b .new)
-    && sameOld (a .old) (b .old) && eqb (a .canceller) (b .canceller) && iff (a .window) (b .window) && sameCast (a .cast) (b .cast)
+    && sameOld (a .old) (b .old) && eqb (a .canceller) (b .canceller) && iff (a .window) (b .window) && iff (a .within) (b .within)
+    && sameCast (a .cast) (b .cast)
 
 abbrev pub sameMessage : Message → Message → Bool
 sameMessage a b =
@@ -142,6 +143,7 @@ event kind sender other mark tn lrn version time due = record {
   version = version;
   time = time;
   due = due;
+  within = 0;
 }
 
 abbrev pub tn : ℕ
@@ -191,6 +193,7 @@ rowFor number n status stamp live new old window cast = record {
   old = old;
   canceller = 0;
   window = window;
+  within = false;
   cast = cast;
 }
 

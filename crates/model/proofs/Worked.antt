@@ -239,6 +239,7 @@ objection = record {
   version = 0;
   time = 10;
   due = 100;
+  within = 0;
 }
 
 abbrev objected : NewSide → ℕ → Version

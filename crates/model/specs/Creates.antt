@@ -80,6 +80,7 @@ freshNumbered e n = record {
   old = oldJoined e (oldAbsent (oldIn e));
   canceller = nobody;
   window = false;
+  within = false;
   cast = noBroadcast;
 }
 

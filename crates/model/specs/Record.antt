@@ -52,6 +52,10 @@ authorizes mark cause = (eqb mark yes && unused cause) || (eqb mark no && named 
 abbrev pub results : ℕ → Bool
 results mark = eqb mark yes || eqb mark no
 
+-- The version type, within one provider: no kind takes it.
+abbrev pub typeFits : Event → Bool
+typeFits e = unused (e .within)
+
 -- 1: sender, other = old, LRN, due
 abbrev pub newCreates : Event → Bool
 newCreates e =
@@ -111,7 +115,8 @@ unfoldable pub fitsBits : Event → Bool
 fitsBits e =
     ltb (e .kind) (2 ^ 8) && ltb (e .sender) (2 ^ 6) && ltb (e .other) (2 ^ 6) && ltb (e .mark) (2 ^ 2) && ltb (e .cause) (2 ^ 8)
     && ltb (e .tn .0) (2 ^ 34) && ltb (e .lrn .0) (2 ^ 34) && ltb (e .version) (2 ^ 16) && ltb (e .time) (2 ^ 32) && ltb (e .due) (2 ^ 32)
+    && ltb (e .within) (2 ^ 1)
 
 -- Otherwise malformed. [E5]
 unfoldable pub wellFormed : Event → Bool
-wellFormed e = fitsBits e && tenDigits (e .tn .0) && named (e .time) && kindFits e
+wellFormed e = fitsBits e && tenDigits (e .tn .0) && named (e .time) && typeFits e && kindFits e

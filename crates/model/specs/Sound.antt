@@ -176,11 +176,15 @@ liveConfirmed v =
     implies (v .live && eqb (v .cast .purpose) activate)
     (ltb 0 (v .cast .confirmed) || (eqb (v .cast .waiting) 0 && eqb (v .cast .failed) 0))
 
+-- the version type, within one provider: no version has it
+abbrev pub withinFits : Version → Bool
+withinFits v = not (v .within)
+
 unfoldable pub soundVersion : Version → Bool
 soundVersion v =
     inRange v && sidesDiffer v && newWhole (v .new) && oldWhole (v .old) && oneCreated v && sidesNeeded v && causeFits (v .old)
     && cancellerFits v && setsApart (v .cast) && retriesFit (v .cast) && startFits v && waitingFits v && purposeFits v && liveFits v
-    && liveConfirmed v
+    && liveConfirmed v && withinFits v
 
 -- ---- the rows of one line
 

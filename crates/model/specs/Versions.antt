@@ -20,6 +20,7 @@ changed v status stamp live new old canceller window cast =
       old = old;
       canceller = canceller;
       window = window;
+      within = v .within;
       cast = cast;
     }
 

@@ -18,6 +18,8 @@ pub struct Event {
     pub version: u16,
     pub time: u32,
     pub due: u32,
+    // The version type: 1 within one provider, else 0.
+    pub within: u8,
 }
 
 // What a record reads as. [E5]
@@ -77,6 +79,8 @@ pub struct Version {
     pub canceller: u8,
     // The window has run out.
     pub window: bool,
+    // A move inside one provider: the version type.
+    pub within: bool,
     pub cast: Broadcast,
 }
 

@@ -18,7 +18,7 @@ use Rattle.model.specs.declared.Event.{Event}
 use Rattle.model.specs.declared.Reading.{Reading}
 use Rattle.model.specs.declared.Reading.the-variants.{Record, Malformed}
 use Rattle.model.specs.Numbers.{tenDigits}
-use Rattle.model.specs.Record.{named, kindFits, fitsBits, wellFormed}
+use Rattle.model.specs.Record.{named, typeFits, kindFits, fitsBits, wellFormed}
 use Rattle.packing.specs.Layout.{widths, fieldsOf, eventOf, bytesOf, readFields, readEvent}
 
 -- the model's bits are the layout's widths
@@ -35,7 +35,8 @@ formed-bits e w =
     let f : Bool = fitsBits e in
     let n : Bool = tenDigits (e .tn .0) in
     let t : Bool = named (e .time) in
-    and-l f n (and-l (f && n) t (and-l (f && n && t) (kindFits e) w))
+    let y : Bool = typeFits e in
+    and-l f n (and-l (f && n) t (and-l (f && n && t) y (and-l (f && n && t && y) (kindFits e) w)))
 
 -- ---- answers
 
@@ -83,20 +84,20 @@ bytes-are xs e q =
     let t = answers-record (eqb (length xs) 24) (readFields (cut widths (be 24 xs 0))) e q in
     (eqb-true (length xs) 24 (t .0), t .1)
 
-pub fields-are : (fs : List ℕ) (e : Event) → readFields fs ≡ Record e → (getD fs 10 0 ≡ 0) × (wellFormed e ≡ true) × (eventOf fs ≡ e)
+pub fields-are : (fs : List ℕ) (e : Event) → readFields fs ≡ Record e → (getD fs 11 0 ≡ 0) × (wellFormed e ≡ true) × (eventOf fs ≡ e)
 unfolding readFields
 fields-are fs e q =
-    let s : Bool = eqb (getD fs 10 0) 0 in
+    let s : Bool = eqb (getD fs 11 0) 0 in
     let w : Bool = wellFormed (eventOf fs) in
     let t = answers-record (s && w) (Record (eventOf fs)) e q in
     let i : eventOf fs ≡ e = record-one (eventOf fs) e (t .1) in
-    (eqb-true (getD fs 10 0) 0 (and-l s w (t .0)), ap wellFormed (sym i) ∙ and-r s w (t .0), i)
+    (eqb-true (getD fs 11 0) 0 (and-l s w (t .0)), ap wellFormed (sym i) ∙ and-r s w (t .0), i)
 
 -- the fields of a number whose spare bits are zero
-fields-back : (n : ℕ) → getD (cut widths n) 10 0 ≡ 0 → fieldsOf (eventOf (cut widths n)) ≡ cut widths n
+fields-back : (n : ℕ) → getD (cut widths n) 11 0 ≡ 0 → fieldsOf (eventOf (cut widths n)) ≡ cut widths n
 fields-back n z = rw z
 
-bytes-back : (n : ℕ) → n < 2 ^ 192 → getD (cut widths n) 10 0 ≡ 0 → bytesOf (eventOf (cut widths n)) ≡ digits 24 n
+bytes-back : (n : ℕ) → n < 2 ^ 192 → getD (cut widths n) 11 0 ≡ 0 → bytesOf (eventOf (cut widths n)) ≡ digits 24 n
 unfolding bytesOf
 bytes-back n h z = ap (λ (l : List ℕ). digits 24 (join widths l)) (fields-back n z) ∙ ap (digits 24) (join-cut widths n ∙ mod-eq-of-lt h)
 

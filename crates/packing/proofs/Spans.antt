@@ -71,21 +71,22 @@ time-parts n =
 pub event-in-words : (a b c : ℕ) → b < 2 ^ 64 → c < 2 ^ 64 → eventOf (cut widths (words a b c)) ≡ eventOfWords a b c
 event-in-words a b c hb hc = rw (time-parts (words a b c)) (ap (λ (fs : List ℕ). eventOf (whole fs)) (parts-cut a b c hb hc))
 
-pub spare-in-words : (a b c : ℕ) → b < 2 ^ 64 → c < 2 ^ 64 → getD (cut widths (words a b c)) 10 0 ≡ c % 2 ^ 14
+pub spare-in-words : (a b c : ℕ) → b < 2 ^ 64 → c < 2 ^ 64 → getD (cut widths (words a b c)) 11 0 ≡ c % 2 ^ 13
 spare-in-words a b c hb hc =
-    ap (λ (fs : List ℕ). getD fs 11 0) (parts-cut a b c hb hc) ∙ ap (λ (m : ℕ). m % 2 ^ 14) (div-one c)
+    ap (λ (fs : List ℕ). getD fs 12 0) (parts-cut a b c hb hc) ∙ ap (λ (m : ℕ). m % 2 ^ 13) (div-one c)
 
 -- WRITING: the words of the fields are the number of 192 bits
-joined : (k s o m c t l v h w d : ℕ)
-    → words (join firstWidths (k ∷ s ∷ o ∷ m ∷ c ∷ t ∷ [])) (join secondWidths (l ∷ v ∷ h ∷ [])) (join thirdWidths (w ∷ d ∷ 0 ∷ []))
-    ≡ join widths (k ∷ s ∷ o ∷ m ∷ c ∷ t ∷ l ∷ v ∷ (h * 2 ^ 18 + w) ∷ d ∷ 0 ∷ [])
-joined k s o m c t l v h w d = simp (add-mul, mul-assoc, add-assoc, add-zero, mul-one)
+joined : (k s o m c t l v h w d y : ℕ)
+    → words (join firstWidths (k ∷ s ∷ o ∷ m ∷ c ∷ t ∷ [])) (join secondWidths (l ∷ v ∷ h ∷ [])) (join thirdWidths (w ∷ d ∷ y ∷ 0 ∷ []))
+    ≡ join widths (k ∷ s ∷ o ∷ m ∷ c ∷ t ∷ l ∷ v ∷ (h * 2 ^ 18 + w) ∷ d ∷ y ∷ 0 ∷ [])
+joined k s o m c t l v h w d y = simp (add-mul, mul-assoc, add-assoc, add-zero, mul-one)
 
 pub packed-joined : (e : Event) (a b c : ℕ) → Packed e a b c → words a b c ≡ join widths (fieldsOf e)
 packed-joined e a b c p =
     rw (p .first, p .second, p .third)
     (joined (e .kind) (e .sender) (e .other) (e .mark) (e .cause) (e .tn .0) (e .lrn .0) (e .version) (e .time / 2 ^ 18)
-    (e .time % 2 ^ 18) (e .due)
+    (e .time % 2 ^ 18) (e .due) (e .within)
     ∙ ap
-    (λ (t : ℕ). join widths (e .kind ∷ e .sender ∷ e .other ∷ e .mark ∷ e .cause ∷ e .tn .0 ∷ e .lrn .0 ∷ e .version ∷ t ∷ e .due ∷ 0 ∷ []))
+    (λ (t : ℕ). join widths (e .kind ∷ e .sender ∷ e .other ∷ e .mark ∷ e .cause ∷ e .tn .0 ∷ e .lrn .0 ∷ e .version ∷ t ∷ e .due
+    ∷ e .within ∷ 0 ∷ []))
     (div-add-mod' (e .time) (2 ^ 18)))

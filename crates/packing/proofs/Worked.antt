@@ -31,6 +31,12 @@ spare-bit : readEvent (1 ∷ 8 ∷ 16 ∷ 0 ∷ 180 ∷ 238 ∷ 209 ∷ 148 ∷ 
 unfolding readEvent readFields wellFormed fitsBits kindFits be
 spare-bit = refl
 
+-- the first spare bit, which is kept for the version type, is set
+type-bit : readEvent (1 ∷ 8 ∷ 16 ∷ 0 ∷ 180 ∷ 238 ∷ 209 ∷ 148 ∷ 45 ∷ 59 ∷ 180 ∷ 76 ∷ 0 ∷ 0 ∷ 0 ∷ 0 ∷ 0 ∷ 2 ∷ 128 ∷ 0 ∷ 0 ∷ 25 ∷ 32 ∷ 0 ∷ [])
+    ≡ Malformed
+unfolding readEvent readFields wellFormed fitsBits kindFits be
+type-bit = refl
+
 -- a TN whose fourth digit is 1
 fourth-digit : wellFormed (eventOf (1 ∷ 2 ∷ 1 ∷ 0 ∷ 0 ∷ 3031550100 ∷ 3035550000 ∷ 0 ∷ 10 ∷ 100 ∷ [])) ≡ false
 unfolding wellFormed fitsBits kindFits

@@ -17,9 +17,9 @@ firstWidths = 8 ∷ 6 ∷ 6 ∷ 2 ∷ 8 ∷ 34 ∷ []
 abbrev pub secondWidths : List ℕ
 secondWidths = 34 ∷ 16 ∷ 14 ∷ []
 
--- the time's low part, due, spare
+-- the time's low part, due, version type, spare
 abbrev pub thirdWidths : List ℕ
-thirdWidths = 18 ∷ 32 ∷ 14 ∷ []
+thirdWidths = 18 ∷ 32 ∷ 1 ∷ 13 ∷ []
 
 -- the fields of the three words in a row, with the time's two parts as one
 abbrev pub whole : List ℕ → List ℕ
@@ -39,9 +39,10 @@ pub record Fitted (e : Event) : Type 0 where
   pub mark : e .mark < 4
   pub tn : e .tn .0 < 2 ^ 34
   pub lrn : e .lrn .0 < 2 ^ 34
+  pub within : e .within < 2
 
 -- the words of an event
 pub record Packed (e : Event) (a b c : ℕ) : Type 0 where
   pub first : a ≡ join firstWidths (e .kind ∷ e .sender ∷ e .other ∷ e .mark ∷ e .cause ∷ e .tn .0 ∷ [])
   pub second : b ≡ join secondWidths (e .lrn .0 ∷ e .version ∷ e .time / 2 ^ 18 ∷ [])
-  pub third : c ≡ join thirdWidths (e .time % 2 ^ 18 ∷ e .due ∷ 0 ∷ [])
+  pub third : c ≡ join thirdWidths (e .time % 2 ^ 18 ∷ e .due ∷ e .within ∷ 0 ∷ [])

@@ -1,4 +1,4 @@
--- The event record: 24 bytes, a number of 192 bits, cut into eleven fields. What its kind asks of the fields stands in the model's Record.
+-- The event record: 24 bytes, a number of 192 bits, cut into twelve fields. What its kind asks of the fields stands in the model's Record.
 -- Assumes nothing.
 use mathlib.Core.Path.{_≡_}
 use mathlib.Core.Bool.{Bool, cond, _&&_}
@@ -14,20 +14,21 @@ use Rattle.model.specs.declared.Reading.the-variants.{Record, Malformed}
 use Rattle.model.specs.Record.{wellFormed}
 
 -- Packed most significant bit first: kind 8 bits, sender 6, other 6, authorization or result 2, cause 8, TN 34, LRN 34, version 16, time
--- 32, due 32, spare 14. [E1]
+-- 32, due 32, spare 14, of which the first is kept for the version type. [E1]
 abbrev pub widths : List ℕ
-widths = 8 ∷ 6 ∷ 6 ∷ 2 ∷ 8 ∷ 34 ∷ 34 ∷ 16 ∷ 32 ∷ 32 ∷ 14 ∷ []
+widths = 8 ∷ 6 ∷ 6 ∷ 2 ∷ 8 ∷ 34 ∷ 34 ∷ 16 ∷ 32 ∷ 32 ∷ 1 ∷ 13 ∷ []
 
 -- the ten fields in the paper's order
 abbrev pub tenOf : Event → List ℕ
 tenOf e = e .kind ∷ e .sender ∷ e .other ∷ e .mark ∷ e .cause ∷ e .tn .0 ∷ e .lrn .0 ∷ e .version ∷ e .time ∷ e .due ∷ []
 
--- and the spare bits, zero
+-- and the version type and the spare bits, zero
 abbrev pub fieldsOf : Event → List ℕ
 fieldsOf e =
-    e .kind ∷ e .sender ∷ e .other ∷ e .mark ∷ e .cause ∷ e .tn .0 ∷ e .lrn .0 ∷ e .version ∷ e .time ∷ e .due ∷ 0 ∷ []
+    e .kind ∷ e .sender ∷ e .other ∷ e .mark ∷ e .cause ∷ e .tn .0 ∷ e .lrn .0 ∷ e .version ∷ e .time ∷ e .due ∷ e .within
+    ∷ 0 ∷ []
 
--- the event with these ten fields
+-- the event with these fields
 abbrev pub eventOf : List ℕ → Event
 eventOf fs =
     record {
@@ -41,6 +42,7 @@ eventOf fs =
       version = getD fs 7 0;
       time = getD fs 8 0;
       due = getD fs 9 0;
+      within = getD fs 10 0;
     }
 
 -- a record's bytes [E1]
@@ -53,7 +55,7 @@ bytesOf e = digits RECORD (join widths (fieldsOf e))
 
 -- what fields and spare bits read as: spare bits that are not zero are malformed [E1, E5]
 unfoldable pub readFields : List ℕ → Reading
-readFields fs = cond (eqb (getD fs 10 0) 0 && wellFormed (eventOf fs)) (Record (eventOf fs)) Malformed
+readFields fs = cond (eqb (getD fs 11 0) 0 && wellFormed (eventOf fs)) (Record (eventOf fs)) Malformed
 
 -- what bytes read as: 24 of them, and well formed, or malformed [E1, E5, O9]
 unfoldable pub readEvent : List ℕ → Reading

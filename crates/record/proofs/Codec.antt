@@ -32,11 +32,11 @@ module _ (xs : List ℕ) (a b c : ℕ) (h : length xs ≡ 24) (p : a ≡ be 8 xs
   unfolding readEvent
   read-words = simp (eq-eqb (length xs) 24 h) (ap (λ (n : ℕ). readFields (cut widths n)) (be-words xs ∙ rw (p, q, r)))
 
-  pub read-spare : b < 2 ^ 64 → c < 2 ^ 64 → (c % 2 ^ 14 ≡ 0 → ⊥) → Malformed ≡ readEvent xs
+  pub read-spare : b < 2 ^ 64 → c < 2 ^ 64 → (c % 2 ^ 13 ≡ 0 → ⊥) → Malformed ≡ readEvent xs
   unfolding readFields
-  read-spare hb hc n = rw (read-words, spare-in-words a b c hb hc, ne-eqb (c % 2 ^ 14) 0 n)
+  read-spare hb hc n = rw (read-words, spare-in-words a b c hb hc, ne-eqb (c % 2 ^ 13) 0 n)
 
-  pub read-fields : b < 2 ^ 64 → c < 2 ^ 64 → (e : Event) (w : Bool) → e ≡ eventOfWords a b c → w ≡ wellFormed e → c % 2 ^ 14 ≡ 0
+  pub read-fields : b < 2 ^ 64 → c < 2 ^ 64 → (e : Event) (w : Bool) → e ≡ eventOfWords a b c → w ≡ wellFormed e → c % 2 ^ 13 ≡ 0
       → cond w (Record e) Malformed ≡ readEvent xs
   unfolding readFields
   read-fields hb hc e w s t z = rw (read-words, spare-in-words a b c hb hc, z, event-in-words a b c hb hc, ← s, ← t)
@@ -46,7 +46,7 @@ module _ (xs : List ℕ) (a b c : ℕ) (h : length xs ≡ 24) (p : a ≡ be 8 xs
 pub fitted : (e : Event) → wellFormed e ≡ true → Fitted e
 fitted e w =
     let at = bits-at e (formed-bits e w) in
-    record { sender = at 1; other = at 2; mark = at 3; tn = at 5; lrn = at 6 }
+    record { sender = at 1; other = at 2; mark = at 3; tn = at 5; lrn = at 6; within = at 10 }
 
 -- three stores fill the 24 bytes
 stores : (xs : List ℕ) (a b c : ℕ) → length xs ≡ 24 → b < 2 ^ 64 → c < 2 ^ 64

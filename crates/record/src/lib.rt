@@ -18,7 +18,7 @@ pub fn read(s: &[u8]) -> Reading
     let first = octets::u64_at(s, 0);
     let second = octets::u64_at(s, 8);
     let third = octets::u64_at(s, 16);
-    if third % 16384 != 0 {
+    if third % 8192 != 0 {
         return Reading::Malformed;
     }
     let e = packing::unpack(first, second, third);

@@ -89,6 +89,7 @@ fn event_in(frame: &[u8; 96]) -> Event {
         version: (field(frame, 64) % 65536) as u16,
         time: (field(frame, 72) % 4294967296) as u32,
         due: (field(frame, 80) % 4294967296) as u32,
+        within: 0,
     }
 }
 

@@ -26,6 +26,7 @@ example = record {
   old = record { provider = 1; created = true; authorization = 1; cause = 0; due = 100 };
   canceller = 0;
   window = false;
+  within = false;
   cast = record { purpose = 1; start = 0; confirmed = 14; waiting = 0; failed = 0; retries = noRetries };
 }
 

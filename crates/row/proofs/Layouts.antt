@@ -45,6 +45,7 @@ module _ (v : Version) (r : Room v) where
         flag-lt (v .new .created),
         flag-lt (v .old .created),
         flag-lt (v .window),
+        flag-lt (v .within),
       )
 
   pub terms-fit : fit termWidths (termFields v) ≡ true
@@ -104,6 +105,7 @@ module _ (v : Version) (r : Room v) where
         old = record { provider = t 2 i; created = m 5 (v .old .created) refl i; authorization = t 3 i; cause = t 4 i; due = d 1 i };
         canceller = t 5 i;
         window = m 6 (v .window) refl i;
+        within = m 7 (v .within) refl i;
         cast = record {
           purpose = t 6 i;
           start = s 1 i;
@@ -120,18 +122,18 @@ module _ (w : Words) (f : Fit64 w) (s : spareless w ≡ true) where
   head-fields : headFields (versionOf w) ≡ cut headWidths (w .head)
   unfolding versionOf spareless
   head-fields =
-      let z : field headWidths 7 (w .head) ≡ 0 =
-      eqb-true _ _ (and-l (eqb (field headWidths 7 (w .head)) 0) (eqb (field termWidths 7 (w .terms)) 0) s) in
+      let z : field headWidths 8 (w .head) ≡ 0 =
+      eqb-true _ _ (and-l (eqb (field headWidths 8 (w .head)) 0) (eqb (field termWidths 7 (w .terms)) 0) s) in
       let b : (k : ℕ) → flag (marked (k % 2)) ≡ k % 2 = λ k. flag-marked (k % 2) (mod-lt k (lit< tt)) in
       λ i.
       w .head / 2 ^ 30 % 2 ^ 34 ∷ w .head / 2 ^ 14 % 2 ^ 16 ∷ w .head / 2 ^ 10 % 2 ^ 4 ∷ b (w .head / 2 ^ 9) i ∷ b (w .head / 2 ^ 8) i
-      ∷ b (w .head / 2 ^ 7) i ∷ b (w .head / 2 ^ 6) i ∷ sym z i ∷ []
+      ∷ b (w .head / 2 ^ 7) i ∷ b (w .head / 2 ^ 6) i ∷ b (w .head / 2 ^ 5) i ∷ sym z i ∷ []
 
   term-fields : termFields (versionOf w) ≡ cut termWidths (w .terms)
   unfolding versionOf spareless
   term-fields =
       let z : field termWidths 7 (w .terms) ≡ 0 =
-      eqb-true _ _ (and-r (eqb (field headWidths 7 (w .head)) 0) (eqb (field termWidths 7 (w .terms)) 0) s) in
+      eqb-true _ _ (and-r (eqb (field headWidths 8 (w .head)) 0) (eqb (field termWidths 7 (w .terms)) 0) s) in
       λ i.
       w .terms / 2 ^ 30 % 2 ^ 34 ∷ w .terms / 2 ^ 24 % 2 ^ 6 ∷ w .terms / 2 ^ 18 % 2 ^ 6 ∷ w .terms / 2 ^ 16 % 2 ^ 2
       ∷ w .terms / 2 ^ 9 % 2 ^ 7

@@ -47,8 +47,8 @@ one-form v w r s e = sym (unpack-pack v r) ∙ ap unpack e ∙ unpack-pack w s
 pub pack-spareless : (v : Version) → Room v → spareless (wordsIn (pack v)) ≡ true
 unfolding spareless wordsOf
 pack-spareless v r =
-    let h : field headWidths 7 (join headWidths (headFields v)) ≡ 0 =
-    ap (λ (l : List ℕ). getD l 7 0) (cut-join headWidths (headFields v) (head-fits v r)) in
+    let h : field headWidths 8 (join headWidths (headFields v)) ≡ 0 =
+    ap (λ (l : List ℕ). getD l 8 0) (cut-join headWidths (headFields v) (head-fits v r)) in
     let t : field termWidths 7 (join termWidths (termFields v)) ≡ 0 =
     ap (λ (l : List ℕ). getD l 7 0) (cut-join termWidths (termFields v) (terms-fit v r)) in
     ap spareless (words-pack v r) ∙ rw (eq-eqb _ 0 h, eq-eqb _ 0 t)

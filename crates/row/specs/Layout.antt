@@ -15,9 +15,9 @@ use Rattle.model.specs.declared.Version.{Version}
 use Rattle.words.specs.declared.Words.{Words}
 use Rattle.words.specs.Codec.{wordsIn, bytesOf}
 
--- TN, number, status, live, new side created, old side created, window run out, spare
+-- TN, number, status, live, new side created, old side created, window run out, within one provider, spare
 abbrev pub headWidths : List ℕ
-headWidths = 34 ∷ 16 ∷ 4 ∷ 1 ∷ 1 ∷ 1 ∷ 1 ∷ 6 ∷ []
+headWidths = 34 ∷ 16 ∷ 4 ∷ 1 ∷ 1 ∷ 1 ∷ 1 ∷ 1 ∷ 5 ∷ []
 
 -- LRN, new and old provider, authorization, cause, canceller, purpose, spare
 abbrev pub termWidths : List ℕ
@@ -84,18 +84,20 @@ versionOf w = record {
   old = oldOf w;
   canceller = field termWidths 5 (w .terms);
   window = marked (field headWidths 6 (w .head));
+  within = marked (field headWidths 7 (w .head));
   cast = castOf w;
 }
 
 -- the spare bits are zero
 unfoldable pub spareless : Words → Bool
-spareless w = eqb (field headWidths 7 (w .head)) 0 && eqb (field termWidths 7 (w .terms)) 0
+spareless w = eqb (field headWidths 8 (w .head)) 0 && eqb (field termWidths 7 (w .terms)) 0
 
 -- ---- the words of a version
 
 abbrev pub headFields : Version → List ℕ
 headFields v =
-    v .id .tn .0 ∷ v .id .number ∷ v .status ∷ flag (v .live) ∷ flag (v .new .created) ∷ flag (v .old .created) ∷ flag (v .window) ∷ 0 ∷ []
+    v .id .tn .0 ∷ v .id .number ∷ v .status ∷ flag (v .live) ∷ flag (v .new .created) ∷ flag (v .old .created) ∷ flag (v .window)
+    ∷ flag (v .within) ∷ 0 ∷ []
 
 abbrev pub termFields : Version → List ℕ
 termFields v =

@@ -82,6 +82,7 @@ pub fn version_of(w: Words) -> Version
         old,
         canceller: ((w.terms >> 7) % 4) as u8,
         window: (w.head >> 6) % 2 == 1,
+        within: (w.head >> 5) % 2 == 1,
         cast,
     }
 }
@@ -90,7 +91,7 @@ pub fn version_of(w: Words) -> Version
 pub fn spare_free(w: Words) -> bool
     ensures { λ r. ⌜ r ≡ spareless w ⌝ }
 {
-    ((w.head >> 0) % 64 == 0) & ((w.terms >> 0) % 32 == 0)
+    ((w.head >> 0) % 32 == 0) & ((w.terms >> 0) % 32 == 0)
 }
 
 fn bit(b: bool) -> u64
@@ -107,9 +108,10 @@ fn head_of(v: Version) -> u64
     let new = bit(v.new.created);
     let old = bit(v.old.created);
     let window = bit(v.window);
-    let marks = ((live * 2 + new) * 2 + old) * 2 + window;
+    let within = bit(v.within);
+    let marks = (((live * 2 + new) * 2 + old) * 2 + window) * 2 + within;
     let id = v.id.tn.0 * 65536 + v.id.number as u64;
-    ((id * 16 + v.status as u64) * 16 + marks) * 64
+    ((id * 16 + v.status as u64) * 32 + marks) * 32
 }
 
 fn terms_of(v: Version) -> u64

@@ -10,7 +10,7 @@ use model::mark;
 use model::status;
 ghost use mathlib.Core.Path.{_≡_};
 ghost use mathlib.Core.Bool.{_&&_};
-ghost use Rattle.model.specs.Sound.{sidesDiffer, newWhole, oldWhole, causeFits, cancellerFits};
+ghost use Rattle.model.specs.Sound.{sidesDiffer, newWhole, oldWhole, causeFits, cancellerFits, withinFits};
 
 pub fn sides_differ(v: Version) -> bool
     ensures { λ r. ⌜ r ≡ sidesDiffer v ⌝ }
@@ -46,9 +46,17 @@ pub fn canceller_fits(v: Version) -> bool
     (canceller::NOBODY < v.canceller) == (v.status == status::CANCEL_PENDING)
 }
 
+// No version is within one provider.
+pub fn within_fits(v: Version) -> bool
+    ensures { λ r. ⌜ r ≡ withinFits v ⌝ }
+{
+    !v.within
+}
+
 // All of them.
 pub fn sides_fit(v: Version) -> bool
-    ensures { λ r. ⌜ r ≡ (sidesDiffer v && newWhole (v .new) && oldWhole (v .old) && causeFits (v .old) && cancellerFits v) ⌝ }
+    ensures { λ r. ⌜ r ≡ (sidesDiffer v && newWhole (v .new) && oldWhole (v .old) && causeFits (v .old) && cancellerFits v
+        && withinFits v) ⌝ }
 {
     let new = v.new;
     let old = v.old;
@@ -58,5 +66,5 @@ pub fn sides_fit(v: Version) -> bool
     if !old_whole(old) {
         return false;
     }
-    sides_differ(v) & cause_fits(old) & canceller_fits(v)
+    sides_differ(v) & cause_fits(old) & canceller_fits(v) & within_fits(v)
 }

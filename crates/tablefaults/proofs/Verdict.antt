@@ -14,7 +14,8 @@ use Rattle.model.proofs.Lists.{and-l}
 use Rattle.model.specs.declared.Broadcast.{Broadcast}
 use Rattle.model.specs.declared.Version.{Version}
 use Rattle.model.specs.Numbers.{isSet}
-use Rattle.model.specs.Sound.{retriesInRange, castInRange, inRange, soundVersion, live, sends, worked, mostRows}
+use Rattle.model.specs.Sound.{retriesInRange, castInRange, inRange, withinFits, soundVersion, live, sends, worked}
+use Rattle.model.specs.Sound.{mostRows}
 use Rattle.words.specs.Size.{ROW}
 use Rattle.row.specs.Layout.{keyOf, spareless}
 use Rattle.row.proofs.Rooms.{sound-tn}
@@ -28,8 +29,8 @@ use Rattle.scan.specs.declared.Soundness.{Soundness}
 use Rattle.scan.specs.declared.Soundness.the-variants.{Unsound, Sound}
 use Rattle.scan.specs.Sound.{pick, admitOf, scanRow, scanRows, scanOf, saidBy, soundnessOf}
 use Rattle.scan.proofs.Scans.{scan-step, scan-done, bad-stays}
-use Rattle.tablefaults.specs.Clauses.{setsInRange, restInRange, rangeClauses, sideClauses, castClauses, wordsAt, versionAt, keyAt}
-use Rattle.tablefaults.specs.Clauses.{freeAt, formClauses, sinks, sharer, besideClauses, rowFound, tableFault}
+use Rattle.tablefaults.specs.Clauses.{typeClauses, setsInRange, restInRange, rangeClauses, sideClauses, castClauses, wordsAt}
+use Rattle.tablefaults.specs.Clauses.{versionAt, keyAt, freeAt, formClauses, sinks, sharer, besideClauses, rowFound, tableFault}
 
 -- ---- a version by itself
 
@@ -48,9 +49,16 @@ cast-ranges c = go (leb (c .purpose) 3) (ltb (c .start) (2 ^ 32)) (isSet (c .con
     go false s a b d r = sym (and-false (a && b && d))
 
 -- the clauses by itself are those of a sound version
-pub alone-sound : (v : Version) → (allHold (rangeClauses v) && (allHold (sideClauses v) && allHold (castClauses v))) ≡ soundVersion v
+pub alone-sound : (v : Version)
+    → (allHold (typeClauses v) && (allHold (rangeClauses v) && (allHold (sideClauses v) && allHold (castClauses v)))) ≡ soundVersion v
 unfolding soundVersion inRange
-alone-sound v = rw (cast-ranges (v .cast)) (simp (and-assoc, and-true))
+alone-sound v =
+    last (withinFits v) (allHold (rangeClauses v) && (allHold (sideClauses v) && allHold (castClauses v)))
+    ∙ rw (cast-ranges (v .cast)) (simp (and-assoc, and-true))
+  where
+    last : (a x : Bool) → (a && true && x) ≡ (x && a)
+    last true x = sym (and-true x)
+    last false x = sym (and-false x)
 
 -- ---- what the rows before have, as the scan carries it
 
@@ -203,14 +211,17 @@ module _ (t : List ℕ) where
       rw f
       (none-broken (formClauses t i (wordsAt t i)) _ refl
       ∙ ap₂ (λ (x y : Bool). x && y) form
+      (none-broken (typeClauses v) _ refl
+      ∙ ap (λ (x : Bool). allHold (typeClauses v) && x)
       (none-broken (rangeClauses v) _ refl
       ∙ ap (λ (x : Bool). allHold (rangeClauses v) && x)
       (none-broken (sideClauses v) _ refl
       ∙ ap (λ (x : Bool). allHold (sideClauses v) && x)
       (none-broken (castClauses v) _ refl
       ∙ ap (λ (x : Bool). allHold (castClauses v) && x)
-      (none-broken (besideClauses t i v) _ refl ∙ and-true (allHold (besideClauses t i v)))))
-      ∙ group (allHold (rangeClauses v)) (allHold (sideClauses v)) (allHold (castClauses v)) (allHold (besideClauses t i v))
+      (none-broken (besideClauses t i v) _ refl ∙ and-true (allHold (besideClauses t i v))))))
+      ∙ group (allHold (typeClauses v)) (allHold (rangeClauses v)) (allHold (sideClauses v)) (allHold (castClauses v))
+      (allHold (besideClauses t i v))
       ∙ ap (λ (x : Bool). x && allHold (besideClauses t i v)) (alone-sound v)
       ∙ go (soundVersion v) refl))
     where
@@ -220,10 +231,11 @@ module _ (t : List ℕ) where
       form : allHold (formClauses t i (wordsAt t i)) ≡ spareless (wordsAt t i)
       form = rw (c .used) (and-true (spareless (wordsAt t i)))
 
-      group : (a b c d : Bool) → (a && (b && (c && d))) ≡ ((a && (b && c)) && d)
-      group true true c d = refl
-      group true false c d = refl
-      group false b c d = refl
+      group : (a b c d e : Bool) → (a && (b && (c && (d && e)))) ≡ ((a && (b && (c && d))) && e)
+      group true true true d e = refl
+      group true true false d e = refl
+      group true false c d e = refl
+      group false b c d e = refl
 
       go : (s : Bool) → soundVersion (versionAt t i) ≡ s → (s && allHold (besideClauses t i (versionAt t i)))
           ≡ (s && follows g (versionAt t i))

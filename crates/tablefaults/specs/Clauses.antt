@@ -14,7 +14,7 @@ use Rattle.model.specs.Numbers.{tenDigits, isProvider, isSet, isTime, isNumber}
 use Rattle.model.specs.Sound.{retriesInRange, sidesDiffer, newWhole, oldWhole, oneCreated, sidesNeeded, causeFits, cancellerFits, isStatus}
 use Rattle.model.specs.Sound.{isPurpose, isCanceller}
 use Rattle.model.specs.Sound.{setsApart, retriesFit, startFits, waitingFits, purposeFits, liveFits, liveConfirmed, live, sends, worked}
-use Rattle.model.specs.Sound.{mostRows}
+use Rattle.model.specs.Sound.{withinFits, mostRows}
 use Rattle.words.specs.declared.Words.{Words}
 use Rattle.words.specs.Size.{ROW}
 use Rattle.words.specs.Codec.{wordsIn, isBlank}
@@ -22,6 +22,10 @@ use Rattle.row.specs.Layout.{keyOf, versionOf, spareless}
 use Rattle.rows.specs.Place.{rowAt}
 
 -- ---- a version by itself
+
+-- the version type, whose bit is kept [T3]
+abbrev pub typeClauses : Version → List Clause
+typeClauses v = alone 4 (withinFits v) ∷ []
 
 -- every value in its range [V1]
 abbrev pub setsInRange : Broadcast → Bool
@@ -117,9 +121,10 @@ unfoldable pub rowFound : List ℕ → ℕ → Found
 rowFound t i =
     cond (freeAt t i) (foundAt 0 0)
     (firstBroken (formClauses t i (wordsAt t i))
+    (firstBroken (typeClauses (versionAt t i))
     (firstBroken (rangeClauses (versionAt t i))
     (firstBroken (sideClauses (versionAt t i))
-    (firstBroken (castClauses (versionAt t i)) (firstBroken (besideClauses t i (versionAt t i)) (foundAt 0 0))))))
+    (firstBroken (castClauses (versionAt t i)) (firstBroken (besideClauses t i (versionAt t i)) (foundAt 0 0)))))))
 
 -- at most 4,096 whole rows [T1], and then row after row
 unfoldable pub tableFault : List ℕ → Fault

@@ -9,7 +9,7 @@ ghost use mathlib.Core.Path.{_≡_};
 ghost use Rattle.faults.specs.Faults.{firstBroken};
 ghost use Rattle.model.specs.declared.Broadcast.{Broadcast};
 ghost use Rattle.model.specs.Sound.{oneCreated, sidesNeeded, purposeFits, liveFits};
-ghost use Rattle.tablefaults.specs.Clauses.{setsInRange, restInRange, rangeClauses, sideClauses, castClauses};
+ghost use Rattle.tablefaults.specs.Clauses.{typeClauses, setsInRange, restInRange, rangeClauses, sideClauses, castClauses};
 use model::Broadcast;
 
 fn sets_in_range(c: Broadcast) -> bool
@@ -23,6 +23,13 @@ fn rest_in_range(c: Broadcast) -> bool
 {
     let retries = c.retries;
     (c.purpose <= purpose::LAST) & ((c.start as u64) < 4294967296) & sets::retries_in_range(retries)
+}
+
+// Clause 4, of the version type.
+pub fn typed(v: Version, rest: Found) -> Found
+    ensures { λ r. ⌜ r ≡ firstBroken (typeClauses v) rest ⌝ }
+{
+    faults::unless(sound::sides::within_fits(v), 4, 0, rest)
 }
 
 // Clauses 5 to 13.

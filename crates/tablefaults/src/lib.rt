@@ -31,7 +31,8 @@ fn found(t: &[u8], i: usize) -> Found
     let cast = alone::cast(v, shared);
     let sides = alone::sides(v, cast);
     let ranges = alone::ranges(v, sides);
-    above::form(t, i, w, ranges)
+    let typed = alone::typed(v, ranges);
+    above::form(t, i, w, typed)
 }
 
 // The first row that breaks a clause.

@@ -10,13 +10,21 @@ fits-bits-requires c κs = search needs
 is-tn-requires : tie.Need-is-tn-requires
 is-tn-requires c κs = search needs
 
+type-fits-requires : tie.Need-type-fits-requires
+type-fits-requires c κs = search needs
+
 kind-fits-requires : tie.Need-kind-fits-requires
 kind-fits-requires c κs = search needs
 
 returns : tie.Need-returns
 unfolding wellFormed
-returns c = rw (c .before .before .before .fits-bits .ensures, c .before .before .is-tn .ensures, c .kind-fits .ensures)
+returns c = rw (
+  c .before .before .before .before .fits-bits .ensures,
+  c .before .before .before .is-tn .ensures,
+  c .before .type-fits .ensures,
+  c .kind-fits .ensures,
+)
 
 pub well-formed-spec : {M : Type 1} → statement M
 well-formed-spec =
-    tie.close (tie.spec fits-bits-requires is-tn-requires kind-fits-requires returns)
+    tie.close (tie.spec fits-bits-requires is-tn-requires type-fits-requires kind-fits-requires returns)

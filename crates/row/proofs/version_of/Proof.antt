@@ -28,10 +28,10 @@ cast-t17 c = search needs
 returns : tie.Need-returns
 unfolding versionOf
 returns c = rw (
-  c .before .before .before .before .before .before .before .before .id-of .ensures,
-  c .before .before .before .before .before .before .before .new-of .ensures,
-  c .before .before .before .before .before .before .old-of .ensures,
-  c .before .before .before .before .before .cast-of .ensures,
+  c .before .before .before .before .before .before .before .before .before .id-of .ensures,
+  c .before .before .before .before .before .before .before .before .new-of .ensures,
+  c .before .before .before .before .before .before .before .old-of .ensures,
+  c .before .before .before .before .before .before .cast-of .ensures,
 )
 
 pub version-of-spec : {M : Type 1} → statement M

@@ -41,13 +41,16 @@ sides-requires c κs = search needs
 ranges-requires : tie.Need-ranges-requires
 ranges-requires c κs = search needs
 
+typed-requires : tie.Need-typed-requires
+typed-requires c κs = search needs
+
 form-requires : tie.Need-form-requires
 form-requires c κs = search needs
 
 returns-2 : tie.Need-returns-2
 unfolding rowFound
 returns-2 c =
-    let v = c .before .before .before .before .before in
+    let v = c .before .before .before .before .before .before in
     let b = v .before .before in
     let a = b .before .before .before .args in
     let used : freeAt (a .t .now) (a .i) ≡ false = ap isBlank (sym (b .before .words .ensures))
@@ -55,10 +58,11 @@ returns-2 c =
     rw (
       used,
       c .form .ensures,
-      c .before .ranges .ensures,
-      c .before .before .sides .ensures,
-      c .before .before .before .cast .ensures,
-      c .before .before .before .before .shared .ensures,
+      c .before .typed .ensures,
+      c .before .before .ranges .ensures,
+      c .before .before .before .sides .ensures,
+      c .before .before .before .before .cast .ensures,
+      c .before .before .before .before .before .shared .ensures,
       v .version-of .ensures,
       b .before .words .ensures,
     )
@@ -76,5 +80,6 @@ found-spec =
     cast-requires
     sides-requires
     ranges-requires
+    typed-requires
     form-requires
     returns-2)

@@ -1,7 +1,7 @@
 -- `sides::sides_fit` meets its contract. Assumes nothing.
 use mathlib.Core.Path.{sym, _∙_}
 use borrow.Author.Tests.{not-true, not-false}
-use Rattle.model.specs.Sound.{sidesDiffer, newWhole, oldWhole, causeFits, cancellerFits}
+use Rattle.model.specs.Sound.{sidesDiffer, newWhole, oldWhole, causeFits, cancellerFits, withinFits}
 use Rattle.sound.proofs.Clauses.{sides-order}
 use borrow.Author.Needs.{needs}
 use Rattle.sound.proofs.sides.sides_fit.Statement.{statement}
@@ -13,7 +13,7 @@ new-whole-requires c κs = search needs
 returns : tie.Need-returns
 returns c =
     let v = c .before .before .before .before .args .v in
-    sym (sides-order (sidesDiffer v) (newWhole (v .new)) (oldWhole (v .old)) (causeFits (v .old)) (cancellerFits v)
+    sym (sides-order (sidesDiffer v) (newWhole (v .new)) (oldWhole (v .old)) (causeFits (v .old)) (cancellerFits v) (withinFits v)
     ∙ rw (sym (c .before .new-whole .ensures) ∙ not-true (c .before .new-whole .result) (c .if1 .taken)))
 
 old-whole-requires : tie.Need-old-whole-requires
@@ -22,7 +22,7 @@ old-whole-requires c κs = search needs
 returns-2 : tie.Need-returns-2
 returns-2 c =
     let v = c .before .before .before .before .before .before .args .v in
-    sym (sides-order (sidesDiffer v) (newWhole (v .new)) (oldWhole (v .old)) (causeFits (v .old)) (cancellerFits v)
+    sym (sides-order (sidesDiffer v) (newWhole (v .new)) (oldWhole (v .old)) (causeFits (v .old)) (cancellerFits v) (withinFits v)
     ∙ rw (
       sym (c .before .before .before .new-whole .ensures) ∙ not-false (c .before .before .before .new-whole .result)
           (c .before .before .if1 .left),
@@ -38,17 +38,24 @@ cause-fits-requires c κs = search needs
 canceller-fits-requires : tie.Need-canceller-fits-requires
 canceller-fits-requires c κs = search needs
 
+within-fits-requires : tie.Need-within-fits-requires
+within-fits-requires c κs = search needs
+
 returns-3 : tie.Need-returns-3
 returns-3 c =
-    let v = c .before .before .before .before .before .before .before .before .before .args .v in
-    rw (c .before .before .sides-differ .ensures, c .before .cause-fits .ensures, c .canceller-fits .ensures)
-    (sym (sides-order (sidesDiffer v) (newWhole (v .new)) (oldWhole (v .old)) (causeFits (v .old)) (cancellerFits v)
+    let s = c .before .before .before .before in
+    let v = s .before .before .before .before .before .before .args .v in
+    rw (
+      c .before .before .before .sides-differ .ensures,
+      c .before .before .cause-fits .ensures,
+      c .before .canceller-fits .ensures,
+      c .within-fits .ensures,
+    )
+    (sym (sides-order (sidesDiffer v) (newWhole (v .new)) (oldWhole (v .old)) (causeFits (v .old)) (cancellerFits v) (withinFits v)
     ∙ rw (
-      sym (c .before .before .before .before .before .before .new-whole .ensures)
-          ∙ not-false (c .before .before .before .before .before .before .new-whole .result)
-          (c .before .before .before .before .before .if1 .left),
-      sym (c .before .before .before .before .old-whole .ensures)
-          ∙ not-false (c .before .before .before .before .old-whole .result) (c .before .before .before .if2 .left),
+      sym (s .before .before .before .new-whole .ensures) ∙ not-false (s .before .before .before .new-whole .result)
+          (s .before .before .if1 .left),
+      sym (s .before .old-whole .ensures) ∙ not-false (s .before .old-whole .result) (s .if2 .left),
     )))
 
 pub sides-fit-spec : {M : Type 1} → statement M
@@ -62,4 +69,5 @@ sides-fit-spec =
     sides-differ-requires
     cause-fits-requires
     canceller-fits-requires
+    within-fits-requires
     returns-3)
