@@ -55,9 +55,14 @@ soa-fits w s sort failed p lrn a b c d = record {
 
 sides-fit : (w : Version) → Room w → (sort failed : ℕ) (lrn : Lrn) → sort < 16 → failed < 2 ^ 64 → lrn .0 < 2 ^ 34
     → All Fits (toSoas w sort failed lrn (sidesTold w))
-sides-fit w s sort failed lrn a b d =
-    with (soa-fits w s sort failed (w .old .provider) lrn a b (s .small .old) d)
-    (with (soa-fits w s sort failed (w .new .provider) lrn a b (s .small .new) d) none)
+sides-fit w s sort failed lrn a b d = go (w .within)
+  where
+    new : Fits (message w false sort failed (w .new .provider) lrn)
+    new = soa-fits w s sort failed (w .new .provider) lrn a b (s .small .new) d
+
+    go : (x : Bool) → All Fits (toSoas w sort failed lrn (cond x (w .new .provider ∷ []) (w .old .provider ∷ w .new .provider ∷ [])))
+    go true = with new none
+    go false = with (soa-fits w s sort failed (w .old .provider) lrn a b (s .small .old) d) (with new none)
 
 restated-fit : (v w : Version) → Room w → All Fits (restatedTold v w)
 restated-fit v w s = go (eqb (v .status) (w .status))

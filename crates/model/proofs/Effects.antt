@@ -17,8 +17,9 @@ use Rattle.model.specs.Outcomes.{isDone}
 use Rattle.model.specs.Selection.{selectedFor}
 use Rattle.model.specs.Given.{Given, Result, refuse, accept, rest}
 use Rattle.model.specs.Tray.{membersTo, members, sidesTold, toSoas, downloads, downloadTo, statusTold, attributesTold, restatedTold}
-use Rattle.model.specs.Creates.{creates, concurred}
-use Rattle.model.specs.Changes.{modified}
+use Rattle.model.specs.Tray.{creation, status, attributes, noLrn}
+use Rattle.model.specs.Creates.{creates, freshVersion, concurred}
+use Rattle.model.specs.Changes.{modified, turns, cancelled, acknowledged, resolved, windowTurned}
 use Rattle.model.specs.Closing.{open?, closed, closingTold, settlingTold}
 use Rattle.model.specs.Broadcast.{opened, broadcasts}
 use Rattle.model.specs.Answers.{answers, heard, askedAgain, again, answering}
@@ -28,6 +29,7 @@ use Rattle.model.proofs.Ways.{by-test, by-way, by-worked, by-kind, by-o
 use Rattle.model.proofs.Arrivals.{member-none}
 use Rattle.model.proofs.Apart.{stepBy, Fine, fine, rows-out}
 use Rattle.model.proofs.Locality.{ruleIn, local}
+use Rattle.model.specs.declared.Lrn.{Lrn}
 use Rattle.model.specs.declared.Version.{Version}
 use Rattle.model.specs.declared.Event.{Event}
 use Rattle.model.specs.declared.Message.{Message}
@@ -48,12 +50,26 @@ modest-accept ms cs h = record { few = h; nothing-sent = λ q. clash (sym q); no
 
 -- ---- how many
 
-told-two : (v w : Version) → length (restatedTold v w) ≤ 4
-told-two v w = go (eqb (v .status) (w .status))
+-- the sides of v, told of w
+sides-few : (v w : Version) (sort failed : ℕ) (lrn : Lrn) → length (toSoas w sort failed lrn (sidesTold v)) ≤ 2
+sides-few v w sort failed lrn = go (v .within)
   where
-    go : (b : Bool) → length (cond b [] (statusTold w) ++ attributesTold w) ≤ 4
+    go : (b : Bool) → length (toSoas w sort failed lrn (cond b (v .new .provider ∷ []) (v .old .provider ∷ v .new .provider ∷ []))) ≤ 2
     go true = omega arith
     go false = omega arith
+
+told-status : (w : Version) → length (statusTold w) ≤ 2
+told-status w = sides-few w w status 0 noLrn
+
+told-restated : (v w : Version) → length (restatedTold v w) ≤ 4
+told-restated v w = go (eqb (v .status) (w .status))
+  where
+    few : length (attributesTold w) ≤ 2
+    few = sides-few w w attributes 0 (w .new .lrn)
+
+    go : (b : Bool) → length (cond b [] (statusTold w) ++ attributesTold w) ≤ 4
+    go true = omega (arith, few)
+    go false = omega (arith, length-append (statusTold w) (attributesTold w), told-status w, few)
 
 length-members : (s n : ℕ) (l : List ℕ) → length (membersTo s n l) ≤ n + length l
 length-members s zero l = omega arith
@@ -83,7 +99,7 @@ closing-two v = go (open? v) (eqb (v .cast .purpose) 1)
     go : (a b : Bool) → length
         (cond a [] (toSoas (closed v) 2 (v .cast .failed) (record { 0 = 0 }) (cond b (sidesTold v) (v .new .provider ∷ [])))) ≤ 2
     go true b = omega arith
-    go false true = omega arith
+    go false true = sides-few v (closed v) 2 (v .cast .failed) (record { 0 = 0 })
     go false false = omega arith
 
 -- downloads, or else the closing's messages
@@ -120,17 +136,21 @@ modest-answers most e v others =
 
 modest-creates : (e : Event) (r : List Version) → Modest (creates e r)
 modest-creates e r =
-    by-worked Modest e r (λ _. modest-accept _ _ (omega arith)) (λ v _. modest-accept _ _ (omega (arith, told-two v (concurred e v))))
+    by-worked Modest e r (λ _. modest-accept _ _ (omega (arith, sides-few (freshVersion e r) (freshVersion e r) creation 0 noLrn)))
+    (λ v _. modest-accept _ _ (omega (arith, told-restated v (concurred e v))))
+
+modest-turns : (w : Version) → Modest (turns w)
+modest-turns w = modest-accept _ _ (omega (arith, told-status w))
 
 modest-manages : (bk : Books) (e : Event) (v : Version) (others : List Version) → Modest (manages bk e v others)
 unfolding broadcasts
 modest-manages bk e v others = by-way Modest bk e v others (record {
-  modify = λ _. modest-accept _ _ (omega (arith, told-two v (modified e v)));
-  cancel = λ _. modest-accept _ _ (omega arith);
-  acknowledge = λ _. modest-accept _ _ (omega arith);
-  resolve = λ _. modest-accept _ _ (omega arith);
+  modify = λ _. modest-accept _ _ (omega (arith, told-restated v (modified e v)));
+  cancel = λ _. modest-turns (cancelled e v);
+  acknowledge = λ _. modest-turns (acknowledged e v);
+  resolve = λ _. modest-turns (resolved e v);
   mark = λ _ _. modest-accept _ _ (omega arith);
-  turn = λ _ _. modest-accept _ _ (omega arith);
+  turn = λ _ _. modest-turns (windowTurned e v);
   broadcast = λ _. modest-accept _ _ (broadcast-few (opened (selectedFor bk (v .id .tn)) e v));
   purge = modest-accept _ _ (omega arith);
 })

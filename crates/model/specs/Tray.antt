@@ -42,9 +42,9 @@ noLrn = record { 0 = 0 }
 abbrev pub toSoas : Version → ℕ → ℕ → Lrn → List ℕ → List Message
 toSoas v sort failed lrn ps = map (λ (p : ℕ). message v false sort failed p lrn) ps
 
--- the two sides: old, new
+-- the two sides: old, new; within one provider they are one
 abbrev pub sidesTold : Version → List ℕ
-sidesTold v = v .old .provider ∷ v .new .provider ∷ []
+sidesTold v = cond (v .within) (v .new .provider ∷ []) (v .old .provider ∷ v .new .provider ∷ [])
 
 -- those of 1 to n that are in the set, rising, and then the rest
 abbrev pub membersTo : ℕ → ℕ → List ℕ → List ℕ

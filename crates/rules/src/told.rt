@@ -31,10 +31,13 @@ fn about(w: Version, sort: u8, failed: u64, lrn: Lrn) -> Message
     }
 }
 
-// To both sides, old and new.
+// To both sides, old and new; within one provider they are one.
 pub fn sides(w: Version, sort: u8, failed: u64, lrn: Lrn) -> Run
     ensures { λ r. ⌜ runOf r ≡ toSoas w sort failed lrn (sidesTold w) ⌝ }
 {
+    if w.within {
+        return side(w, w.new.provider, sort, failed, lrn);
+    }
     let say = about(w, sort, failed, lrn);
     Run {
         say,
