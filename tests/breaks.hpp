@@ -62,6 +62,22 @@ inline void breakNeeded(Dice &d, Version &v) {
     }
 }
 
+// Number 14: a provider twice without the type, two with it, the type there or gone.
+inline void breakSame(Dice &d, Version &v) {
+    if (OF_TYPE != 0 && d.chance(50)) v.within = !v.within;
+    else if (v.within) v.oldProvider = v.oldProvider % PROVIDERS + 1;
+    else v.newProvider = v.oldProvider = d.chance(50) ? v.newProvider : v.oldProvider;
+}
+
+// Number 37: a row of the type, its old side has created or the window mark is set.
+inline void breakWithin(Dice &d, Version &v) {
+    v.within = true, v.oldProvider = v.newProvider;
+    bool alone = v.newCreated && v.status != CONFLICT && v.status != CANCEL_PENDING;
+    v.windowRanOut = alone ? d.chance(60) : d.chance(20);
+    if (alone && v.windowRanOut) takeOldSide(v);
+    else if (!v.oldCreated) v.oldCreated = true, v.authorization = YES, v.oldDue = v.stamp;
+}
+
 // Number 27, and nothing else that had not been broken before.
 inline void breakConfirmed(Dice &d, Version &v, Provider p) {
     if (v.status != SENDING || d.chance(50)) {
@@ -105,7 +121,7 @@ inline void breakMarks(Dice &d, Version &v, uint64_t number) {
     }
 }
 
-// Numbers 5 to 27, but for 13, whose bits no version has.
+// Numbers 5 to 27 and 37, but for 13, whose bits no version has.
 inline void breakVersion(Dice &d, Version &v, uint64_t number) {
     switch (number) {
     case 5: v.tn.digits = d.chance(80) ? badDigits(d, v.tn.digits) : d.chance(50) ? 0 : d.between(10000000000, 17179869183); break;
@@ -116,11 +132,12 @@ inline void breakVersion(Dice &d, Version &v, uint64_t number) {
     case 10: v.oldProvider = 0; break;
     case 11: v.canceller = Side(CANCELLERS); break;
     case 12: (d.chance(33) ? v.confirmed : d.chance(50) ? v.waiting : v.failed).insert(0); break;
-    case 14: v.newProvider = v.oldProvider = d.chance(50) ? v.newProvider : v.oldProvider; break;
+    case 14: breakSame(d, v); break;
     case 15: breakNewSide(d, v); break;
     case 16: breakOldSide(d, v); break;
     case 17: takeNewSide(v), takeOldSide(v); break;
     case 18: breakNeeded(d, v); break;
+    case 37: breakWithin(d, v); break;
     default: breakMarks(d, v, number);
     }
 }
@@ -244,11 +261,12 @@ inline Bytes brokenTable(Dice &d, Table t, const Books &b) {
     size_t more = d.chance(2) ? MOST_ROWS : d.chance(8) ? d.between(250, 300) : t.used.size() + d.between(2, 9);
     if (t.used.size() < 2 || d.chance(25)) addNumbers(d, t, b, more);
     bool linesAlone = !b.splits.empty() && d.chance(18) && breakLines(d, t, b);
-    std::vector<Break> breaks = anyBreaks(d, t.used.size(), 3, 31), bits;
+    std::vector<Break> breaks = anyBreaks(d, t.used.size(), 3, 31 + WITHIN_PROVIDER), bits;  // of a row 37 is next to 31
     if (linesAlone) breaks.clear();
     for (const Break &k : breaks) {
         if (k.number <= 4 || k.number == 13) bits.push_back(k);
         else if (k.number < 28) breakVersion(d, t.used[k.at], k.number);
+        else if (k.number == 32) breakVersion(d, t.used[k.at], 37);
         else if (k.number == 28) breakOrder(d, t, k.at);
         else breakCounts(d, t, k.number);
     }

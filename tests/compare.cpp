@@ -4,7 +4,7 @@
 //
 // Sequences of events over sound situations, with damaged slices between; neighbours exchanged as demand 3 allows; many events in one call;
 // the checks of soundness alone, and where something is unsound; the class that selection gives each provider; lines with two names (A3);
-// records; the 35 flows, and those of lines.
+// versions within one provider (A14); records; the 35 flows, and those of lines.
 // Sequence n of a seed is always the same, so a difference is replayed with its seed and its number.
 #include <cstdio>
 #include <cstring>
@@ -35,6 +35,12 @@ enum Reason : size_t { FREE, OWN_CODE_OF_PAIR, OTHER_CODE_OF_PAIR, ABSENT_IN_LIS
 // What happens on lines with two names, as far as it is counted apart.
 enum OnLine : size_t { RETIRED, CONCURRED, NUMBERED, BUSY_BY_OTHER, EARLY_BY_OTHER, LIVE_BY_OTHER, OWN_OWNER, OTHER_OWNER, MANY, ON_LINE };
 
+// What happens to versions within one provider and to the creates of them, as far as it is counted apart.
+enum Within : size_t { CREATED, CREATED_ON_LINE, NOT_OF_CURRENT, BESIDE_WORKED, BESIDE_SENDING, TOO_EARLY, NO_WINDOW, NO_WINDOW_BY_PROVIDER,
+                       NO_OLD_SIDE, CANCELED_AT_ONCE, ACTIVATED, CLOSED_ONCE, CLOSED_FAILED_ONCE, OTHER_CREATES, RETIRES, IS_RETIRED,
+                       ACKNOWLEDGED, RESOLVED, IN_ANOTHER_KIND, OF_TWO, OF_ONE_WITHOUT, WITHIN };
+enum WithinFault : size_t { TWO_WITH_TYPE, ONE_WITHOUT_TYPE, OLD_SIDE_WITH_TYPE, WINDOW_WITH_TYPE, WITHIN_FAULTS };
+
 struct Tally {
     uint64_t events = 0, differ = 0, records = 0, exchanged = 0, unsoundAfter = 0, checks = 0, runs = 0, stops = 0;
     uint64_t outcomes[KINDS + 2][OUTCOMES + 1] = {};  // by kind (the first and the last: no kind) and outcome (the last: no outcome)
@@ -45,6 +51,7 @@ struct Tally {
     uint64_t broadcast[CLASSES] = {}, resent[CLASSES] = {};  // by class: providers at kinds 5, 9, 10; failed systems at a resend
     uint64_t splitLines = 0, underOther[KINDS + 1][2] = {};  // events on lines in split pairs; under another name by kind: done, refused
     uint64_t onLine[ON_LINE] = {};
+    uint64_t within[WITHIN] = {}, withinFaults[WITHIN_FAULTS] = {};
     uint64_t seed = 0, sequence = 0;
 } tally;
 
@@ -186,6 +193,88 @@ void countLine(const LineBefore &l, const std::optional<Event> &e, uint64_t outc
     tally.onLine[OWN_OWNER] += judged && done;
     tally.onLine[MANY] += l.own > 12 && l.others > 12;
     tally.onLine[OTHER_OWNER] += judged && outcome == NOT_CURRENT && (e->kind == NEW_CREATES ? e->other : e->sender) == l.partnersOwner;
+}
+
+// ---- Versions within one provider ----
+
+// The version that an event is for (of a create the worked one) and the live version of its line, before it.
+struct TypesBefore {
+    std::optional<Version> meant, live;
+};
+
+TypesBefore typesBefore(const std::optional<Table> &table, const std::optional<Books> &books, const std::optional<Event> &e) {
+    TypesBefore t;
+    if (!WITHIN_PROVIDER || !table || !books || !sound(*books) || !e) return t;
+    const Version *v = e->kind <= OLD_CREATES ? workedVersion(*table, *books, e->tn) : findVersion(*table, *books, e->tn, e->version);
+    if (v) t.meant = *v;
+    for (const Version *o : versionsOf(*table, *books, e->tn))
+        if (o->live) t.live = *o;
+    return t;
+}
+
+// A create of the type, and one that a worked version of the type refuses.
+void countCreateWithin(const TypesBefore &t, const std::optional<Books> &books, const Event &e, uint64_t outcome) {
+    if (!e.within) {
+        tally.within[OTHER_CREATES] += outcome == UNFIT && t.meant->within;
+        return;
+    }
+    tally.within[CREATED] += outcome == DONE;
+    tally.within[CREATED_ON_LINE] += outcome == DONE && otherName(*books, e.tn);
+    tally.within[NOT_OF_CURRENT] += outcome == NOT_CURRENT;
+    tally.within[BESIDE_WORKED] += outcome == UNFIT;
+    tally.within[BESIDE_SENDING] += outcome == BUSY;
+    tally.within[TOO_EARLY] += outcome == EARLY;
+}
+
+// What is left of a version after an event; of one that was purged nothing.
+const Version *leftOf(const Table &after, const Version &v) {
+    for (const Version &o : after.used)
+        if (o.tn == v.tn && o.number == v.number) return &o;
+    return nullptr;
+}
+
+// An activation that closes: its messages, and the live version that it turns old.
+void countClosing(const TypesBefore &t, const Event &e, const Table &after, const Messages &told) {
+    const Version *v = leftOf(after, *t.meant);
+    bool answers = e.kind == REPLY || e.kind == SILENCE || e.kind == RESEND;
+    bool activation = e.kind == ACTIVATES || (answers && t.meant->purpose == ACTIVATE);
+    if (!activation || v->status == SENDING) return;
+    size_t once = 0;
+    for (const Message &m : told) once += m.sort == STATUS;
+    tally.within[v->status == FAILED ? CLOSED_FAILED_ONCE : CLOSED_ONCE] += v->within && once == 1;
+    if (!t.live || t.live->number == v->number || leftOf(after, *t.live)->live) return;
+    tally.within[RETIRES] += v->within;
+    tally.within[IS_RETIRED] += !v->within && t.live->within;
+}
+
+void countWithin(const TypesBefore &t, const std::optional<Books> &books, const std::optional<Event> &e, const Result &r,
+                 const std::optional<Table> &after) {
+    if (!WITHIN_PROVIDER || !e || r.outcome == UNSOUND) return;
+    bool creates = e->kind == NEW_CREATES || e->kind == OLD_CREATES, malformed = r.outcome == MALFORMED;
+    tally.within[IN_ANOTHER_KIND] += malformed && e->within && e->kind != NEW_CREATES;
+    tally.within[OF_TWO] += malformed && e->within && e->kind == NEW_CREATES && e->sender != e->other;
+    tally.within[OF_ONE_WITHOUT] += malformed && !e->within && creates && e->sender == e->other;
+    if (malformed) return;
+    if (creates) return countCreateWithin(t, books, *e, r.outcome);
+    if (!t.meant) return;
+    if (r.outcome == DONE && e->kind != PURGE) countClosing(t, *e, *after, r.messages);
+    if (!t.meant->within) return;
+    tally.within[NO_WINDOW] += e->kind == WINDOW_RAN_OUT && e->sender == NPAC && r.outcome == MISPLACED;
+    tally.within[NO_WINDOW_BY_PROVIDER] += e->kind == WINDOW_RAN_OUT && r.outcome == STANDLESS;
+    bool its = e->sender == t.meant->newProvider;
+    tally.within[NO_OLD_SIDE] += e->kind == OLD_MODIFIES && its && r.outcome == STANDLESS;
+    tally.within[ACKNOWLEDGED] += e->kind == ACKNOWLEDGES && its && r.outcome == MISPLACED;
+    tally.within[RESOLVED] += e->kind == RESOLVES && its && r.outcome == MISPLACED;
+    tally.within[CANCELED_AT_ONCE] += e->kind == CANCELS && r.outcome == DONE && leftOf(*after, *t.meant)->status == CANCELED;
+    tally.within[ACTIVATED] += e->kind == ACTIVATES && r.outcome == DONE;
+}
+
+// Numbers 14 and 37 by what the row has.
+void countWithinFault(const Bytes &table, const Fault &f) {
+    if (!WITHIN_PROVIDER || (f.clause != 14 && f.clause != 37)) return;
+    Row r = readRow(table.data() + (f.place - 1) * ROW);
+    if (f.clause == 14) tally.withinFaults[r.within ? TWO_WITH_TYPE : ONE_WITHOUT_TYPE]++;
+    else tally.withinFaults[r.oldCreated ? OLD_SIDE_WITH_TYPE : WINDOW_WITH_TYPE]++;
 }
 
 // ---- Selection ----
@@ -353,6 +442,7 @@ bool compareStep(Slices &s, const Bytes &record, std::optional<Table> &table, co
     uint64_t used = retriesUsed(table, books, e);
     std::optional<Version> with = concursWith(table, books, e);
     LineBefore line = lineBefore(table, books, e);
+    TypesBefore types = typesBefore(table, books, e);
     model = step(table, books, s.R, e, s.tray.size() / MESSAGE);
     tray2 = before.tray;
     if (model.outcome == DONE) {
@@ -365,6 +455,7 @@ bool compareStep(Slices &s, const Bytes &record, std::optional<Table> &table, co
     if (s.shortCall && model.outcome == DONE && e->kind == SILENCE) tally.shortSilences[used]++;
     countConcurring(with, e, model.outcome);
     countLine(line, e, model.outcome, table);
+    countWithin(types, books, e, model, table);
     bool counted = counts(record.empty() ? 0 : record[0], model.outcome);
     const char *what = library.outcome != model.outcome ? "outcome" : library.count != model.messages.size() ? "count"
         : s.table != table2 ? "table" : s.tray != tray2 ? "tray" : s.providers != before.providers ? "providers written to"
@@ -450,9 +541,10 @@ const char *verdictFault(const Slices &s, const Fault &table, const Fault &books
 #ifdef TEST_CHECKS
     bool all = checked(s.table, s.providers, s.books), rows = checked(s.table, Bytes(), Bytes(BOOKS));
     bool lists = lupinenblatt_books_check(at(s.providers), s.providers.size(), at(s.books), s.books.size()) == DONE;
+    bool ofLines = table.clause > 32 && table.clause < 37;
     if ((table.clause == 0) != all) return "table_fault and the table's check";
     if ((table.clause == 32) != (rows && !lists)) return "table_fault and the two checks";
-    if ((table.clause > 32) != (rows && lists && !all)) return "table_fault and the table's check of lines";
+    if (ofLines != (rows && lists && !all)) return "table_fault and the table's check of lines";
     if ((books.clause == 0) != lists) return "books_fault and books_check";
 #endif
     return (void)s, (void)table, (void)books, nullptr;
@@ -472,6 +564,7 @@ bool compareFaults(const Slices &s) {
     bool counted = table2.clause <= TABLE_CLAUSES && books2.clause <= BOOKS_CLAUSES;
     tally.tableFaults[std::min<uint64_t>(table2.clause, TABLE_CLAUSES + 1)]++;
     tally.booksFaults[std::min<uint64_t>(books2.clause, BOOKS_CLAUSES + 1)]++;
+    countWithinFault(s.table, table2);
     const char *what = !(table == table2) ? "table_fault" : !(books == books2) ? "books_fault"
         : kept.table != s.table || kept.providers != s.providers || kept.books != s.books ? "a call that says where wrote"
         : !counted ? "a clause that tests/sizes.h does not count" : verdictFault(kept, table, books);
@@ -515,6 +608,7 @@ bool recordsAgree(const Bytes &bytes, const Fields &f, size_t places, size_t len
 }
 
 void compareRecords(Dice &d, const Event &e) {
+    if (e.within) return;  // it has no fields yet, see hasNoFields
     tally.records++;
     Fields f = fieldsOf(e);
     if (d.chance(50)) {  // one field too wide or otherwise odd
@@ -522,6 +616,7 @@ void compareRecords(Dice &d, const Event &e) {
         f[i] = d.chance(40) ? f[i] + (uint64_t(1) << WIDTHS[i]) : d.chance(50) ? uint64_t(1) << d.below(64) : d.below(LAST_CAUSE + 2);
     }
     Bytes bytes = d.chance(50) ? packEvent(e) : damagedRecord(d, e);
+    if (hasNoFields(bytes.data(), bytes.size())) return;
     size_t places = d.chance(90) ? FIELDS : d.below(FIELDS + 3), length = d.chance(85) ? RECORD : d.below(2 * RECORD + 2);
     if (recordsAgree(bytes, f, places, length)) return;
     tally.differ++;
@@ -849,6 +944,42 @@ bool printLines() {
     return good;
 }
 
+// How often events met the type, and what happened then.
+bool printWithin() {
+    static const char *const what[WITHIN] = {
+        "create done", "create done on a line with two names", "create: 12", "create: 9", "create: 10", "create: 8",
+        "kind 13 from the NPAC: 7", "kind 13 from a provider: 6", "kind 4 from its provider: 6", "cancel acts at once", "activation done",
+        "activation closed, told once", "activation failed, told once", "create of two providers, 9 by a worked version of the type",
+        "a closing of one makes the live version old", "a closing of another makes one old", "kind 7 from its provider: 7",
+        "kind 8 from its provider: 7", "malformed: the type in another kind", "malformed: the type with two providers",
+        "malformed: a provider twice without the type"};
+    bool good = true;
+    if (!WITHIN_PROVIDER) return good;
+    std::printf("within one provider\n");
+    for (size_t i = 0; i < WITHIN; i++) {
+        std::printf("    %-76s", what[i]);
+        good = seen(tally.within[i]) && good;
+        std::printf("\n");
+    }
+    return good;
+}
+
+#ifdef TEST_FAULTS
+bool printWithinFaults() {
+    static const char *const what[WITHIN_FAULTS] = {
+        "14: two providers with the type", "14: a provider twice without the type", "37: the old side has created", "37: the window mark alone"};
+    bool good = true;
+    for (size_t i = 0; WITHIN_PROVIDER && i < WITHIN_FAULTS; i++) {
+        std::printf("    %-76s", what[i]);
+        good = seen(tally.withinFaults[i]) && good;
+        std::printf("\n");
+    }
+    return good;
+}
+#else
+bool printWithinFaults() { return true; }
+#endif
+
 #ifdef TEST_SELECTION
 // How often selection was called how, and of how many providers it told what; what it said where a broadcast or a resend took it.
 bool printSelection() {
@@ -925,6 +1056,8 @@ int main(int argc, char **argv) {
     enough = printShort() && enough;
     enough = printConcurring() && enough;
     enough = printLines() && enough;
+    enough = printWithin() && enough;
+    enough = printWithinFaults() && enough;
     enough = printSelection() && enough;
     printTally();
     std::printf("%llu events compared, %llu differ\n", (unsigned long long)tally.events, (unsigned long long)tally.differ);

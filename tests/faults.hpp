@@ -31,7 +31,7 @@ inline const RowClause ROW_CLAUSES[] = {
     {11, [](const Row &r) { return r.canceller > OLD_SIDE; }},
     {12, [](const Row &r) { return r.confirmed.count(0) || r.waiting.count(0) || r.failed.count(0); }},
     {13, [](const Row &r) { return r.highest; }},
-    {14, [](const Row &r) { return r.newProvider == r.oldProvider; }},
+    {14, [](const Row &r) { return (r.newProvider == r.oldProvider) != r.within; }},
     {15, [](const Row &r) { return !newSideWhole(r) || (r.newCreated && !tenDigits(r.lrn.digits)); }},
     {16, [](const Row &r) { return !oldSideWhole(r) || (r.oldCreated && r.authorization > NO); }},
     {17, [](const Row &r) { return !oneCreated(r); }},
@@ -67,11 +67,13 @@ inline Fault faultBeside(const std::vector<Row> &before, const Row &r) {
     return {};
 }
 
-// A row by itself, then by those before it.
+// A row by itself, then by those before it, then [A14] by itself again: number 37 is the largest of a row.
 inline Fault rowFault(const std::vector<Row> &before, const Row &r) {
     for (const RowClause &c : ROW_CLAUSES)
         if (c.fails(r)) return {c.number, before.size() + 1, 0};
-    return faultBeside(before, r);
+    Fault f = faultBeside(before, r);
+    if (f.clause == 0 && !withinFits(r)) f = {37, before.size() + 1, 0};
+    return f;
 }
 
 // Rows before the first free one are used; a used one behind it is at fault whatever it holds.

@@ -195,9 +195,9 @@ void checkStep(Dice &d, Places &p, const Input &in, uint64_t (&outcomes)[OUTCOME
     else if (!p.providers.same(0) || !p.books.same(0) || !p.event.same(0)) what = "a slice that is only read was changed";
     else if (a.count > MOST_MESSAGES) what = MORE.c_str();
     else if (a.outcome == 0 && !p.tray.same(a.count * MESSAGE)) what = "the tray was changed behind its messages";
-    bool good = soundInput(in), formed = readRecord(in.event.data(), in.event.size()).has_value();
+    bool good = soundInput(in), form = formed(in.event.data(), in.event.size());
     if (good != (a.outcome != 1)) what = good ? "outcome 1 though everything is sound" : "not outcome 1 though something is unsound";
-    else if (good && formed != (a.outcome != 2)) what = formed ? "outcome 2 for a well-formed record" : "not outcome 2 for a malformed record";
+    else if (good && form != (a.outcome != 2)) what = form ? "outcome 2 for a well-formed record" : "not outcome 2 for a malformed record";
     if (a.outcome == 0 && !soundAfter(p.table.now(), in)) what = "outcome 0 left an unsound table";
     bool guarded = p.table.guarded();
     guarded = p.providers.guarded() && guarded;
@@ -238,10 +238,10 @@ const char *runFault(Places &p, const Input &in, const lupinenblatt_ran &a, cons
     for (size_t i = 0; i < a.events; i++) {
         if (places - messages < PLACES) return "run: an event with too few places left";
         uint8_t outcome = outcomes[2 * i], sent = outcomes[2 * i + 1];
-        bool formed = readRecord(in.event.data() + i * RECORD, RECORD).has_value();
+        bool form = formed(in.event.data() + i * RECORD, RECORD);
         bool known = isOutcome(outcome) && outcome != 1 && sent <= MOST_MESSAGES;
         if (!known || (outcome != 0 && sent != 0)) return "run: an outcome or count that no event has";
-        if (formed != (outcome != 2)) return "run: outcome 2 and the record's form disagree";
+        if (form != (outcome != 2)) return "run: outcome 2 and the record's form disagree";
         messages += sent;
     }
     if (messages != a.messages) return "run: the counts are not the messages";
@@ -362,15 +362,16 @@ void checkFaults(Dice &d, Places &p, const Input &in) {
 
 // The record's two calls: 0 or 2, nothing written with 2, nothing outside. A guard number stands before and behind the fields.
 void checkRecord(Dice &d, Places &p, const Input &in) {
+    if (hasNoFields(in.event.data(), in.event.size())) return;
     size_t length = d.chance(70) ? RECORD : d.below(60), places = d.chance(80) ? FIELDS : d.below(2 * FIELDS);
     uint8_t *event = p.event.lay(d, in.event);
     const uint64_t blankField = 0x0123456789abcdef;
     std::vector<uint64_t> fields(places + 2, blankField);
     uint8_t said = lupinenblatt_record_read(event, in.event.size(), fields.data() + 1, places);
     bool kept = std::all_of(fields.begin(), fields.end(), [=](uint64_t f) { return f == blankField; });
-    bool formed = readRecord(in.event.data(), in.event.size()).has_value() && places == FIELDS;
+    bool reads = formed(in.event.data(), in.event.size()) && places == FIELDS;
     const char *what = nullptr;
-    if (said != (formed ? 0 : 2)) what = "record_read answers wrongly";
+    if (said != (reads ? 0 : 2)) what = "record_read answers wrongly";
     else if (said == 2 && !kept) what = "record_read refused and wrote";
     else if (fields[0] != blankField || fields[places + 1] != blankField) what = "record_read wrote beside the fields";
     else if (!p.event.same(0)) what = "record_read changed the bytes";

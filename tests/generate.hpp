@@ -134,9 +134,20 @@ inline Systems anySystems(Dice &d, const Situation &s, const Systems &a, const S
     return out;
 }
 
+// How often, in a hundred, a version whose status allows it, and a create, are of the type "within one provider" (A14).
+constexpr uint64_t OF_TYPE = 25 * WITHIN_PROVIDER;
+inline bool anyType(Dice &d) { return OF_TYPE != 0 && d.chance(OF_TYPE); }
+
+// The one side of a version within one provider.
+inline void makeOneSide(Dice &d, const Situation &s, Version &v) {
+    v.within = true, v.oldProvider = v.newProvider;
+    v.newCreated = true, v.lrn.digits = anyTenDigits(d), v.newDue = after(s.base, d.below(30));
+}
+
 // The sides of a version in this status, also combinations that no event makes.
 inline void makeSides(Dice &d, const Situation &s, Version &v) {
     v.newProvider = d.chance(95) ? anyPresent(d, s) : d.between(1, PROVIDERS);
+    if (v.status != CONFLICT && v.status != CANCEL_PENDING && anyType(d)) return makeOneSide(d, s, v);
     do v.oldProvider = d.chance(80) && s.present.size() > 1 ? anyPresent(d, s) : d.between(1, PROVIDERS);
     while (v.oldProvider == v.newProvider);
     bool mustNew = v.status == CANCEL_PENDING || (v.status >= SENDING && v.status <= OLD);
@@ -200,6 +211,7 @@ inline void makeVersionsOf(Dice &d, Situation &s, const std::vector<Tn> &names, 
         for (size_t k = first; k < out.size(); k++)
             if (out[k].live && lineOf(s.books, out[k].tn) == lineOf(s.books, out[i].tn)) current = out[k].newProvider;
         if (current != 0 && current != out[i].newProvider && d.chance(75)) out[i].oldProvider = current;
+        if (out[i].within) out[i].newProvider = out[i].oldProvider;
     }
 }
 
@@ -287,8 +299,18 @@ inline Event filled(Dice &d, const Situation &s, Event e, Time atLeast) {
     return e;
 }
 
+// A create within one provider, mostly the current one.
+inline Event aCreateWithin(Dice &d, const Situation &s, Tn tn) {
+    Event e;
+    Provider current = currentProvider(s.table, s.books, tn);
+    e.kind = NEW_CREATES, e.tn = tn, e.within = true;
+    e.sender = e.other = current != 0 && d.chance(85) ? current : anyPresent(d, s);
+    return filled(d, s, e, 0);
+}
+
 // A create. Where the other side has created, nearly always with its due date, which a concurrence has to give.
 inline Event aCreate(Dice &d, const Situation &s, Tn tn) {
+    if (anyType(d)) return aCreateWithin(d, s, tn);
     Event e;
     e.tn = tn;
     const Version *v = workedVersion(s.table, s.books, tn);
@@ -296,7 +318,7 @@ inline Event aCreate(Dice &d, const Situation &s, Tn tn) {
     if (oldSide == 0) oldSide = anyPresent(d, s);
     for (int i = 0; i < 8 && newSide == oldSide; i++) newSide = anyPresent(d, s);
     if (newSide == oldSide) newSide = oldSide % PROVIDERS + 1;
-    bool byNew = v ? (!v->newCreated || (v->oldCreated && d.chance(50))) : d.chance(60);
+    bool byNew = v && !v->within ? (!v->newCreated || (v->oldCreated && d.chance(50))) : d.chance(60);
     e.kind = byNew ? NEW_CREATES : OLD_CREATES;
     e.sender = byNew ? newSide : oldSide;
     e.other = byNew ? oldSide : newSide;
@@ -320,9 +342,9 @@ inline void movesOf(Dice &d, const Situation &s, const Version &v, std::vector<E
     auto eitherSide = [&] { return v.newCreated && (!v.oldCreated || d.chance(50)) ? v.newProvider : v.oldProvider; };
     switch (v.status) {
     case PENDING:
-        if (v.newCreated && (v.oldCreated || v.windowRanOut))
+        if (v.newCreated && (v.oldCreated || v.windowRanOut || v.within))
             for (int i = 0; i < 3; i++) add(ACTIVATES, v.newProvider, v.newDue);
-        if (!v.newCreated || (!v.oldCreated && !v.windowRanOut)) add(WINDOW_RAN_OUT, NPAC);
+        if (!v.newCreated || (!v.oldCreated && !v.windowRanOut && !v.within)) add(WINDOW_RAN_OUT, NPAC);
         [[fallthrough]];
     case CONFLICT:
         if (v.newCreated) add(NEW_MODIFIES, v.newProvider);
@@ -455,8 +477,17 @@ inline Event nextEvent(Dice &d, const Situation &s, uint64_t good) {
 
 // ---- Damage ----
 
+// The type where it mostly does not belong: in another kind, with two providers; a provider twice without it, or in the other create.
+inline Bytes mistypedRecord(Dice &d, const Event &e) {
+    Fields f = fieldsOf(e);
+    if (e.kind > OLD_CREATES || d.chance(50)) return packFields(f, !e.within);
+    f[2] = e.within ? f[1] % PROVIDERS + 1 : f[1];
+    return packFields(f, e.within || d.chance(30));
+}
+
 // A record that is mostly malformed: one field or bit changed, another length.
 inline Bytes damagedRecord(Dice &d, const Event &e) {
+    if (OF_TYPE != 0 && d.chance(30)) return mistypedRecord(d, e);
     Fields f = fieldsOf(e);
     switch (d.below(5)) {
     case 0: {
@@ -465,20 +496,20 @@ inline Bytes damagedRecord(Dice &d, const Event &e) {
                                        LAST_TIME, 9999999999, 10000000000, 1999999999, 2001999999};
         f[i] = d.chance(70) ? odd[d.below(std::size(odd))] : d.next();
         if (WIDTHS[i] < 64) f[i] &= (uint64_t(1) << WIDTHS[i]) - 1;
-        return packFields(f);
+        return packFields(f, e.within);
     }
-    case 1: return packFields(f, uint64_t(1) << d.below(SPARE));
+    case 1: return packFields(f, e.within, uint64_t(1) << d.below(SPARE));
     case 2: {
-        Bytes out = packFields(f);
+        Bytes out = packFields(f, e.within);
         out.resize(d.pick(std::vector<size_t>{0, 1, RECORD - 1, RECORD + 1, 2 * RECORD}));
         return out;
     }
     case 3: {
         f[0] = d.chance(80) ? d.below(KINDS + 3) : d.below(256);
-        return packFields(f);
+        return packFields(f, e.within);
     }
     default: {
-        Bytes out = packFields(f);
+        Bytes out = packFields(f, e.within);
         size_t bit = d.below(RECORD * 8);
         out[bit / 8] = uint8_t(out[bit / 8] ^ 1u << bit % 8);
         return out;
@@ -494,7 +525,7 @@ inline void damageVersion(Dice &d, Version &v) {
     else if (d.chance(60) && !v.failed.empty()) p = *v.failed.begin();
     auto flip = [&](Systems &set) { if (!set.erase(p)) set.insert(p); };
     auto time = [&](Time &t) { t = d.chance(50) ? 0 : d.between(1, LAST_TIME); };
-    switch (d.below(24)) {
+    switch (d.below(24 + WITHIN_PROVIDER)) {
     case 0: case 1: case 2: v.status = Status(d.chance(90) ? d.below(STATUSES) : d.below(STATUS_VALUES)); break;
     case 3: v.live = !v.live; break;
     case 4: v.newCreated = !v.newCreated; break;
@@ -515,6 +546,7 @@ inline void damageVersion(Dice &d, Version &v) {
     case 20: flip(v.failed); break;
     case 21: v.retries[p] = d.between(1, MOST_RETRIES); break;
     case 22: v.number = d.chance(60) ? v.number + 1 - 2 * d.below(2) : d.below(LAST_VERSION + 1); v.number &= LAST_VERSION; break;
+    case 24: v.within = !v.within; break;
     default: v.tn.digits = d.chance(50) ? v.tn.digits + 1 - 2 * d.below(2) : d.below(uint64_t(1) << 34);
     }
 }
@@ -562,7 +594,7 @@ inline void damageEdge(Dice &d, Version &v) {
 }
 
 // A bit of a row that no value has: a spare one, the highest of a word of retries, one of these or nobody's in a set.
-inline size_t spareBit(Dice &d) { return d.chance(50) ? 58 + d.below(6) : 64 + 59 + d.below(5); }
+inline size_t spareBit(Dice &d) { return d.chance(50) ? 58 + TYPE + d.below(6 - TYPE) : 64 + 59 + d.below(5); }
 inline size_t unusedRetriesBit(Dice &d) { return 64 * d.between(7, 9); }
 inline size_t unusedBit(Dice &d) { return d.chance(50) ? spareBit(d) : d.chance(50) ? 64 * d.between(4, 6) + 63 : unusedRetriesBit(d); }
 

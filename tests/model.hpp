@@ -143,6 +143,7 @@ struct Version {
     bool newCreated = false, oldCreated = false;
     Side canceller = NOBODY;
     bool windowRanOut = false;
+    bool within = false;  // [A14] the type: within one provider
     bool live = false;
     Time stamp = 0;
     Time start = 0;
@@ -159,13 +160,13 @@ struct Table {
 
 inline bool worked(const Version &v) { return v.status == PENDING || v.status == CONFLICT || v.status == CANCEL_PENDING; }
 
-// [V1] Every value in its range; the two providers differ.
+// [V1] Every value in its range; [A14] the two providers are the same exactly in a version within one provider.
 inline bool inRange(const Version &v) {
     auto systems = [](const Systems &s) { return s.empty() || (*s.begin() >= 1 && *s.rbegin() <= 63); };
     for (const auto &[p, n] : v.retries)
         if (!isProvider(p) || n < 1 || n > 7) return false;
     return tenDigits(v.tn.digits) && v.number >= 1 && v.number <= 65535 && v.status >= 0 && v.status <= 8
-        && isProvider(v.newProvider) && isProvider(v.oldProvider) && v.newProvider != v.oldProvider
+        && isProvider(v.newProvider) && isProvider(v.oldProvider) && (v.newProvider == v.oldProvider) == v.within
         && (v.lrn.digits == 0 || tenDigits(v.lrn.digits)) && v.newDue <= LAST_TIME && v.oldDue <= LAST_TIME
         && v.authorization >= 0 && v.authorization <= 2 && v.cause <= 99 && v.canceller >= 0 && v.canceller <= 2
         && isTime(v.stamp) && v.start <= LAST_TIME && v.purpose >= 0 && v.purpose <= 3
@@ -189,9 +190,15 @@ inline bool neededCreated(const Version &v) {
 inline bool causeFits(const Version &v) { return (v.authorization == NO) == (v.cause != 0); }
 inline bool cancellerFits(const Version &v) { return (v.canceller != NOBODY) == (v.status == CANCEL_PENDING); }
 
-// [V2] to [V5] The sides.
+// [A14] Within one provider only the new side has created and no window mark is set.
+inline bool withinFits(const Version &v) {
+    if (v.within && (v.oldCreated || v.windowRanOut)) return false;
+    return true;
+}
+
+// [V2] to [V5] [A14] The sides.
 inline bool soundSides(const Version &v) {
-    return newSideWhole(v) && oldSideWhole(v) && oneCreated(v) && neededCreated(v) && causeFits(v) && cancellerFits(v);
+    return newSideWhole(v) && oldSideWhole(v) && oneCreated(v) && neededCreated(v) && causeFits(v) && cancellerFits(v) && withinFits(v);
 }
 
 inline bool disjoint(const Systems &a, const Systems &b) {
@@ -297,6 +304,7 @@ struct Event {
     Lrn lrn;
     uint64_t version = 0;
     Time time = 0, due = 0;
+    bool within = false;  // [A14] the type of the version that it creates
 };
 
 // [E2] Which fields a kind names, besides TN and time.
@@ -327,7 +335,8 @@ inline bool wellFormed(const Event &e) {
     if (named.lrn ? !tenDigits(e.lrn.digits) : e.lrn.digits != 0) return false;
     if (named.version ? !(e.version >= 1 && e.version <= 65535) : e.version != 0) return false;
     if (named.due ? !isTime(e.due) : e.due != 0) return false;
-    if ((e.kind == NEW_CREATES || e.kind == OLD_CREATES) && e.sender == e.other) return false;
+    if (e.within && e.kind != NEW_CREATES) return false;  // [A14]
+    if ((e.kind == NEW_CREATES || e.kind == OLD_CREATES) && (e.sender == e.other) != e.within) return false;
     return true;
 }
 
@@ -416,15 +425,16 @@ inline bool standing(const Version &v, const Event &e) {
     }
 }
 
-// [G2] [G3] The statuses of a kind, with the finer conditions.
+// [G2] [G3] The statuses of a kind, with the finer conditions. [A14] Within one provider activation needs no old side, and there is no
+// window in any status.
 inline bool statusAllows(const Version &v, const Event &e) {
     switch (e.kind) {
     case NEW_MODIFIES: case OLD_MODIFIES: case CANCELS: return v.status == PENDING || v.status == CONFLICT;
-    case ACTIVATES: return v.status == PENDING && (v.oldCreated || v.windowRanOut);
+    case ACTIVATES: return v.status == PENDING && (v.oldCreated || v.windowRanOut || v.within);
     case ACKNOWLEDGES: return v.status == CANCEL_PENDING;
     case RESOLVES: return v.status == CONFLICT;
     case MODIFIES_ACTIVE: case DISCONNECTS: return v.status == ACTIVE && v.failed.empty();
-    case WINDOW_RAN_OUT: return v.status == PENDING || v.status == CANCEL_PENDING;
+    case WINDOW_RAN_OUT: return !v.within && (v.status == PENDING || v.status == CANCEL_PENDING);
     case RESEND: return v.status == FAILED || v.status == PARTIAL_FAILURE || (v.status == ACTIVE && !v.failed.empty());
     default: return v.status == OLD || v.status == CANCELED;  // purge
     }
@@ -454,7 +464,8 @@ inline bool unawaited(const Version &v, const Event &e) {
     return false;
 }
 
-// [C3] A worked version that a create concurs with.
+// [C3] A worked version that a create concurs with. [A14] None within one provider: its new side has created, and its providers are the
+// same, as those of a create of two providers never are.
 inline bool fits(const Version &v, const Event &e) {
     bool byNew = e.kind == NEW_CREATES;
     Provider newSide = byNew ? e.sender : e.other, oldSide = byNew ? e.other : e.sender;
@@ -543,15 +554,20 @@ inline Message messageOf(const Version &v, Provider to, Sort sort) {
     return m;
 }
 
-inline void tellBoth(Messages &out, const Version &v, Sort sort) {
-    out.push_back(messageOf(v, v.oldProvider, sort));
-    out.push_back(messageOf(v, v.newProvider, sort));
+// [A14] Whom that is told which goes to old and new: both in this order, or once the provider that is both.
+inline std::vector<Provider> sidesOf(const Version &v) {
+    if (v.within) return {v.newProvider};
+    return {v.oldProvider, v.newProvider};
+}
+
+inline void tellSides(Messages &out, const Version &v, Sort sort) {
+    for (Provider p : sidesOf(v)) out.push_back(messageOf(v, p, sort));
 }
 
 // [Y4]
 inline void tellChange(Messages &out, const Version &v, Status before) {
-    if (v.status != before) tellBoth(out, v, STATUS);
-    tellBoth(out, v, ATTRIBUTES);
+    if (v.status != before) tellSides(out, v, STATUS);
+    tellSides(out, v, ATTRIBUTES);
 }
 
 // [Y5]
@@ -564,12 +580,10 @@ inline Message download(const Version &v, Provider to) {
 
 // [Y6] The only messages with a failed set.
 inline void tellClosing(Messages &out, const Version &v, Purpose purpose) {
-    if (purpose == ACTIVATE) {
-        out.push_back(messageOf(v, v.oldProvider, STATUS));
+    for (Provider p : purpose == ACTIVATE ? sidesOf(v) : std::vector<Provider>{v.newProvider}) {
+        out.push_back(messageOf(v, p, STATUS));
         out.back().failed = v.failed;
     }
-    out.push_back(messageOf(v, v.newProvider, STATUS));
-    out.back().failed = v.failed;
 }
 
 // ---- Rules by kind: what is done ------------------------------------------------------------------------------------------------------
@@ -611,9 +625,10 @@ inline void create(Table &t, const Books &b, const Event &e, Messages &out) {
     v.status = PENDING;
     v.newProvider = e.kind == NEW_CREATES ? e.sender : e.other;
     v.oldProvider = e.kind == NEW_CREATES ? e.other : e.sender;
+    v.within = e.within;
     takeValues(v, e);
     putInOrder(t, v);
-    tellBoth(out, v, CREATION);
+    tellSides(out, v, CREATION);
 }
 
 // [M1] [M2]
@@ -653,7 +668,7 @@ inline void cancelOrResolve(Version &v, const Event &e, Messages &out) {
         v.authorization = YES;
         v.cause = 0;
     }
-    tellBoth(out, v, STATUS);
+    tellSides(out, v, STATUS);
 }
 
 // [K4] [K5] [Y7]
@@ -665,7 +680,7 @@ inline void windowRunsOut(Version &v, Messages &out) {
     }
     if (v.status == PENDING) v.status = CANCELED;
     else leaveFor(v, v.canceller == NEW_SIDE ? CANCELED : CONFLICT);
-    tellBoth(out, v, STATUS);
+    tellSides(out, v, STATUS);
 }
 
 // [D5] Skipped exactly when one of the provider's filters names the code and, if the code stands in a split pair, another the partner.

@@ -1,4 +1,4 @@
-// The scenario text form of vectors/PROTOCOL.md: read, and written in the same words.
+// The scenario text form of vectors/PROTOCOL.md: read, and written in the same words. A row of the type (A14) has one word more, "within".
 #pragma once
 
 #include <iostream>
@@ -33,10 +33,11 @@ inline std::string textOf(const Systems &s) {
 inline Version readRow(std::istream &in) {
     Version v;
     int status, authorization, canceller, purpose;
-    std::string confirmed, waiting, failed, retries;
+    std::string confirmed, waiting, failed, retries, type;
     in >> v.tn.digits >> v.number >> status >> v.newProvider >> v.oldProvider >> v.lrn.digits >> v.newDue >> v.oldDue >> authorization
        >> v.cause >> v.newCreated >> v.oldCreated >> canceller >> v.windowRanOut >> v.live >> v.stamp >> v.start >> purpose >> confirmed
-       >> waiting >> failed >> retries;
+       >> waiting >> failed >> retries >> type;
+    v.within = type == "within";
     v.status = Status(status), v.authorization = Authorization(authorization), v.canceller = Side(canceller), v.purpose = Purpose(purpose);
     v.confirmed = readSystems(confirmed), v.waiting = readSystems(waiting), v.failed = readSystems(failed);
     std::stringstream list(retries);
@@ -53,7 +54,7 @@ inline std::string textOf(const Version &v) {
         << v.lrn.digits << ' ' << v.newDue << ' ' << v.oldDue << ' ' << int(v.authorization) << ' ' << v.cause << ' ' << v.newCreated << ' '
         << v.oldCreated << ' ' << int(v.canceller) << ' ' << v.windowRanOut << ' ' << v.live << ' ' << v.stamp << ' ' << v.start << ' '
         << int(v.purpose) << ' ' << textOf(v.confirmed) << ' ' << textOf(v.waiting) << ' ' << textOf(v.failed) << ' '
-        << (retries.empty() ? "-" : retries);
+        << (retries.empty() ? "-" : retries) << (v.within ? " within" : "");
     return out.str();
 }
 
