@@ -3,7 +3,8 @@
  *
  * The soundness of the table is one pass with one load a word and, but for retries, no branch that goes either way in sound tables; a
  * number's rows are found by bisection; rows and messages are written word by word; rows move by memmove. The rows of a line in a
- * split pair are found by two bisections, and the pass is followed by a merge for each pair.
+ * split pair are found by two bisections, and the pass is followed by a merge for each pair. Without WITHIN_PROVIDER (request A14, see
+ * tests/sizes.h) the type of a row or record is the constant 0.
  */
 #include "hand.h"
 #include "sizes.h"
@@ -77,6 +78,10 @@ static inline bool all_zero(const uint8_t *at, size_t length)
 {
     return length == 0 || (at[0] == 0 && memcmp(at, at + 1, length - 1) == 0);
 }
+
+/* Bits of a row's first word, and its type: 1 within one provider. */
+enum { OLD_CREATED = 1 << 7, WINDOW_RUN_OUT = 1 << 6, WITHIN = WITHIN_PROVIDER << 5, SPARE = 63 & ~WITHIN };
+static inline uint64_t within_of(uint64_t w0) { return w0 >> 5 & WITHIN_PROVIDER; }
 
 /*
  * Ten digits, the first and the fourth 2 to 9: 1 where they are not. The fourth digit is 2 or more exactly where n / 10,000,000 is at least
@@ -160,7 +165,7 @@ static ptrdiff_t check_table(const uint8_t *table, size_t length)
         uint64_t w0 = load64(at), w1 = load64(at + 8);
         if (w0 == 0) break;
         uint64_t key = w0 >> 14, tn = w0 >> 30, status = w0 >> 10 & 15, live = w0 >> 9 & 1, created = w0 >> 8 & 1, old = w0 >> 7 & 1;
-        if (((w0 & 63) | (w1 & 31)) != 0 || (key & 0xffff) == 0 || key <= last || not_ten_digits(tn)) return -1;
+        if (((w0 & SPARE) | (w1 & 31)) != 0 || (key & 0xffff) == 0 || key <= last || not_ten_digits(tn)) return -1;
         uint64_t once = ONCE[status] | live;
         seen &= -(uint64_t)(tn == last >> 16);
         if ((seen & once) != 0) return -1;
@@ -170,7 +175,8 @@ static ptrdiff_t check_table(const uint8_t *table, size_t length)
         uint64_t lrn = w1 >> 30, one = w1 >> 24 & 63, two = w1 >> 18 & 63, mark = w1 >> 16 & 3, cause = w1 >> 9 & 127;
         uint64_t canceller = w1 >> 7 & 3, purpose = w1 >> 5 & 3;
         uint64_t place = (w0 >> 7 & 7) | purpose << 3 | (uint64_t)(canceller != 0) << 5;
-        if ((FITS[status] >> place & 1) == 0 || canceller == 3 || one == 0 || two == 0 || one == two) return -1;
+        if ((FITS[status] >> place & 1) == 0 || canceller == 3 || one == 0 || two == 0) return -1;
+        if ((((one == two) ^ within_of(w0)) | (within_of(w0) & (w0 >> 7 | w0 >> 6))) != 0) return -1;
         if (((created ^ (lrn != 0)) | (created & not_ten_digits(lrn)) | (created ^ (raw32(at + 16) != 0))) != 0) return -1;
         if (((old ^ (mark != 0)) | (old ^ (raw32(at + 20) != 0))) != 0 || mark == 3) return -1;
         if ((mark == NO) != (cause != 0) || cause > 99) return -1;
@@ -406,7 +412,7 @@ static uint64_t selected(const books_t *b, uint32_t code)
 
 typedef struct {
     uint64_t tn, lrn, version, time, due;
-    unsigned kind, sender, other, mark, cause;
+    unsigned kind, sender, other, mark, cause, within;
 } event_t;
 
 enum { HAS_SENDER = 1, MAY_BE_NPAC = 2, HAS_OTHER = 4, HAS_MARK = 8, HAS_CAUSE = 16, HAS_LRN = 32, HAS_VERSION = 64, HAS_DUE = 128 };
@@ -433,7 +439,8 @@ static bool well_formed(const event_t *e)
     uint64_t bad = not_ten_digits(e->tn) | (e->time == 0);
     bad |= named & HAS_SENDER ? e->sender == 0 && !(named & MAY_BE_NPAC) : e->sender != 0;
     bad |= ((named & HAS_OTHER) != 0) != (e->other != 0);
-    bad |= (named & HAS_OTHER) && e->sender == e->other;
+    bad |= (named & HAS_OTHER) && (e->sender == e->other) != e->within;
+    bad |= e->within && e->kind != NEW_CREATES;
     bad |= (((named & HAS_MARK) != 0) != (e->mark != 0)) | (e->mark > NO);
     bad |= (cause != (e->cause != 0)) | (e->cause > 99);
     bad |= named & HAS_LRN ? not_ten_digits(e->lrn) : e->lrn != 0;
@@ -455,7 +462,8 @@ static bool read_event(const uint8_t *at, event_t *e)
     e->version = b >> 14 & 0xffff;
     e->time = (b & 0x3fff) << 18 | c >> 46;
     e->due = c >> 14 & 0xffffffff;
-    return (c & 0x3fff) == 0 && well_formed(e);
+    e->within = c >> 13 & WITHIN_PROVIDER;
+    return (c & (0x3fff >> WITHIN_PROVIDER)) == 0 && well_formed(e);
 }
 
 uint8_t hand_record_read(const uint8_t *bytes, size_t length, uint64_t *fields, size_t places)
@@ -473,7 +481,7 @@ uint8_t hand_record_write(uint64_t kind, uint64_t sender, uint64_t other, uint64
     if (length != RECORD || kind > KINDS || sender > PROVIDERS || other > PROVIDERS || mark > NO || cause > LAST_CAUSE
         || version > LAST_VERSION || time > 0xffffffff || due > 0xffffffff)
         return 2;
-    event_t e = {tn, lrn, version, time, due, (unsigned)kind, (unsigned)sender, (unsigned)other, (unsigned)mark, (unsigned)cause};
+    event_t e = {tn, lrn, version, time, due, (unsigned)kind, (unsigned)sender, (unsigned)other, (unsigned)mark, (unsigned)cause, 0};
     if (!well_formed(&e)) return 2;
     store64(out, kind << 56 | sender << 50 | other << 44 | mark << 42 | cause << 34 | tn);
     store64(out + 8, lrn << 30 | version << 14 | time >> 18);
@@ -557,17 +565,18 @@ static inline uint8_t *tell(uint8_t *tray, uint64_t w0, unsigned provider, unsig
     return tray + MESSAGE;
 }
 
-static inline uint8_t *tell_both(uint8_t *tray, uint64_t w0, uint64_t w1, unsigned sort)
+/* To old and new; within one provider once. */
+static inline uint8_t *tell_sides(uint8_t *tray, uint64_t w0, uint64_t w1, unsigned sort)
 {
     uint64_t second = sort == ATTRIBUTES ? w1 & ~(uint64_t)0x3fffffff : 0;
-    tray = tell(tray, w0, old_of(w1), sort, second, 0);
+    if (!within_of(w0)) tray = tell(tray, w0, old_of(w1), sort, second, 0);
     return tell(tray, w0, new_of(w1), sort, second, 0);
 }
 
 static inline uint8_t *tell_change(uint8_t *tray, uint64_t w0, uint64_t w1, bool changed)
 {
-    if (changed) tray = tell_both(tray, w0, w1, STATUS);
-    return tell_both(tray, w0, w1, ATTRIBUTES);
+    if (changed) tray = tell_sides(tray, w0, w1, STATUS);
+    return tell_sides(tray, w0, w1, ATTRIBUTES);
 }
 
 static inline uint8_t *download(uint8_t *tray, uint64_t w0, uint64_t w1, unsigned provider)
@@ -609,7 +618,7 @@ static uint8_t *close(const engine_t *g, uint8_t *row, uint64_t w0, uint64_t w1,
             w0 |= 1 << 9;
             retire(g, row, w0 >> 30, stamp);
         }
-        tray = tell(tray, w0, old_of(w1), STATUS, 0, failed);
+        if (!within_of(w0)) tray = tell(tray, w0, old_of(w1), STATUS, 0, failed);
     } else if (purpose == MODIFY || none_confirmed) {
         w0 = with_status(w0, ACTIVE);
     } else {
@@ -674,7 +683,7 @@ static unsigned create(engine_t *g, const event_t *e, uint8_t **tray)
         memmove(row + ROW, row, (size_t)(g->rows + ROW * g->used - row));
         g->used++;
         memset(row + 32, 0, ROW - 32);
-        w0 = e->tn << 30 | (s.newest + 1) << 14, w1 = one << 24 | two << 18, w2 = 0;
+        w0 = e->tn << 30 | (s.newest + 1) << 14 | e->within << 5, w1 = one << 24 | two << 18, w2 = 0;
     }
     uint64_t before = w0 >> 10 & 15;
     w0 |= side;
@@ -691,7 +700,7 @@ static unsigned create(engine_t *g, const event_t *e, uint8_t **tray)
     store64(row + 16, w2);
     if (s.worked == NULL) {
         store64(row + 24, e->time << 32);
-        *tray = tell_both(*tray, w0, w1, CREATION);
+        *tray = tell_sides(*tray, w0, w1, CREATION);
     } else {
         store64(row + 24, e->time << 32 | (uint32_t)load64(row + 24));
         *tray = tell_change(*tray, w0, w1, (w0 >> 10 & 15) != before);
@@ -775,7 +784,7 @@ static unsigned other_kind(engine_t *g, const event_t *e, uint8_t **tray)
     bool busy = false, early = e->time < s.stamp, unawaited = false;
     switch (e->kind) {
     case ACTIVATES:
-        if (!old && !window) return 7;
+        if ((w0 & (OLD_CREATED | WINDOW_RUN_OUT | WITHIN)) == 0) return 7;
         busy = s.sending != NULL;
         early |= e->time < w2 >> 32;
         break;
@@ -789,7 +798,10 @@ static unsigned other_kind(engine_t *g, const event_t *e, uint8_t **tray)
         break;
     case PURGE: busy = s.newest == e->version; break;
     case ACKNOWLEDGES: unawaited = stand == canceller; break;
-    case WINDOW_RAN_OUT: unawaited = status == PENDING && created && (old || window); break;
+    case WINDOW_RAN_OUT:
+        if (within_of(w0)) return 7;
+        unawaited = status == PENDING && created && (old || window);
+        break;
     default: break;
     }
     if (busy) return 10;
@@ -826,7 +838,7 @@ static unsigned other_kind(engine_t *g, const event_t *e, uint8_t **tray)
         break;
     default:  /* the window ran out */
         if (status == PENDING && created) {
-            w0 |= 1 << 6;
+            w0 |= WINDOW_RUN_OUT;
         } else if (status == PENDING) {
             w0 = with_status(w0, CANCELED);
         } else {
@@ -839,7 +851,7 @@ static unsigned other_kind(engine_t *g, const event_t *e, uint8_t **tray)
     store64(row + 24, e->time << 32 | (uint32_t)w3);
     if (e->kind <= OLD_MODIFIES) *tray = tell_change(*tray, w0, w1, (w0 >> 10 & 15) != status);
     else if (e->kind == WINDOW_RAN_OUT && status == PENDING && created) *tray = tell(*tray, w0, old_of(w1), WINDOW_NOTICE, 0, 0);
-    else *tray = tell_both(*tray, w0, w1, STATUS);
+    else *tray = tell_sides(*tray, w0, w1, STATUS);
     return 0;
 }
 

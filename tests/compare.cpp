@@ -269,14 +269,6 @@ void countWithin(const TypesBefore &t, const std::optional<Books> &books, const 
     tally.within[ACTIVATED] += e->kind == ACTIVATES && r.outcome == DONE;
 }
 
-// Numbers 14 and 37 by what the row has.
-void countWithinFault(const Bytes &table, const Fault &f) {
-    if (!WITHIN_PROVIDER || (f.clause != 14 && f.clause != 37)) return;
-    Row r = readRow(table.data() + (f.place - 1) * ROW);
-    if (f.clause == 14) tally.withinFaults[r.within ? TWO_WITH_TYPE : ONE_WITHOUT_TYPE]++;
-    else tally.withinFaults[r.oldCreated ? OLD_SIDE_WITH_TYPE : WINDOW_WITH_TYPE]++;
-}
-
 // ---- Selection ----
 
 #ifdef TEST_SELECTION
@@ -529,6 +521,14 @@ bool compareChecks(const Slices &s, const std::optional<Table> &table, const std
 void printFault(const char *who, const Fault &f) {
     std::printf("%s: number %llu, place %llu, second %llu\n", who, (unsigned long long)f.clause, (unsigned long long)f.place,
                 (unsigned long long)f.second);
+}
+
+// Numbers 14 and 37 by what the row has.
+void countWithinFault(const Bytes &table, const Fault &f) {
+    if (!WITHIN_PROVIDER || (f.clause != 14 && f.clause != 37)) return;
+    Row r = readRow(table.data() + (f.place - 1) * ROW);
+    if (f.clause == 14) tally.withinFaults[r.within ? TWO_WITH_TYPE : ONE_WITHOUT_TYPE]++;
+    else tally.withinFaults[r.oldCreated ? OLD_SIDE_WITH_TYPE : WINDOW_WITH_TYPE]++;
 }
 
 // Whether the table's check finds nothing with this provider list and these books.

@@ -323,6 +323,7 @@ inline Named fieldsOf(uint64_t kind) {
 }
 
 // [E2] [E3] [E4] Named fields are non-zero and in range, unused ones zero, but for the sender of kinds 3 to 10 and 13 to 15 and the cause.
+// [A14] The type stands in kind 1 alone; there, and nowhere else, sender and other are the same.
 inline bool wellFormed(const Event &e) {
     if (e.kind < 1 || e.kind > 15 || !tenDigits(e.tn.digits) || !isTime(e.time)) return false;
     Named named = fieldsOf(e.kind);
@@ -335,7 +336,7 @@ inline bool wellFormed(const Event &e) {
     if (named.lrn ? !tenDigits(e.lrn.digits) : e.lrn.digits != 0) return false;
     if (named.version ? !(e.version >= 1 && e.version <= 65535) : e.version != 0) return false;
     if (named.due ? !isTime(e.due) : e.due != 0) return false;
-    if (e.within && e.kind != NEW_CREATES) return false;  // [A14]
+    if (e.within && e.kind != NEW_CREATES) return false;
     if ((e.kind == NEW_CREATES || e.kind == OLD_CREATES) && (e.sender == e.other) != e.within) return false;
     return true;
 }
