@@ -78,6 +78,11 @@ inline void breakWithin(Dice &d, Version &v) {
     else if (!v.oldCreated) v.oldCreated = true, v.authorization = YES, v.oldDue = v.stamp;
 }
 
+// Now and then number 37 in a row that breaks one from 28 on: of these 37 is told last.
+inline void breakBesides(Dice &d, Version &v) {
+    if (OF_TYPE != 0 && d.chance(10)) breakWithin(d, v);
+}
+
 // Number 27, and nothing else that had not been broken before.
 inline void breakConfirmed(Dice &d, Version &v, Provider p) {
     if (v.status != SENDING || d.chance(50)) {
@@ -168,6 +173,7 @@ inline void breakOrder(Dice &d, Table &t, size_t at) {
     if (way == 1) v.tn = before.tn, v.number = before.number;
     if (way == 2) v.tn = before.tn, v.number = d.between(1, before.number);
     if (way == 3) t.used.insert(t.used.begin() + long(at), Version(before));
+    breakBesides(d, t.used[at]);
 }
 
 // Numbers 29 to 31: a live, sending or worked version once more behind the last of its TN, other versions of that TN between them.
@@ -186,6 +192,7 @@ inline void breakCounts(Dice &d, Table &t, uint64_t number) {
     std::vector<Version> more(between + 1, other);
     more.back() = again;
     if (d.chance(25)) damageJointly(d, more.back());
+    breakBesides(d, more.back());
     for (Version &v : more) v.number = ++last;
     t.used.insert(t.used.begin() + long(at) + 1, more.begin(), more.end());
     t.freeRows -= std::min<size_t>(t.freeRows, more.size());
