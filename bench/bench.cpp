@@ -380,7 +380,7 @@ void steps(const std::vector<Situation> &situations) {
     Dice d(7);
     std::vector<std::vector<Measured>> done, refused;
     for (const Wanted &w : STEPS) (w.outcome == DONE ? done : refused).push_back(stepRow(d, w, situations));
-    if (WITHIN_PROVIDER) done.push_back(stepRow(d, {"0 done: 1 creates within one provider, rows move", 1, DONE, true, true}, situations));
+    if (WITHIN_PROVIDER) done.push_back(stepRow(d, {"0 done: 1 within one provider, rows move", 1, DONE, true, true}, situations));
     lines.push_back([=] {
         meanRow("step, all done, geometric mean", done);
         meanRow("step, all refused, geometric mean", refused);
