@@ -301,7 +301,7 @@ inline bool formed(const uint8_t *in, size_t length) {
 }
 
 // A well-formed record of the type. The two calls below have no field for it, so such records are left out where the calls are compared
-// (recordsAgree, checkRecord). When the calls take an eleventh field, the type is the last of Fields and WIDTHS, and this goes.
+// (compareRecords, checkRecord, bench/). When the calls take an eleventh field, the type is the last of Fields and WIDTHS, and this goes.
 inline bool hasNoFields(const uint8_t *in, size_t length) { return formed(in, length) && unpackEvent(in, length)->within; }
 
 // [E5] [E6] Reading and writing as the calls for C have them: 0 with the result, or 2 and nothing.

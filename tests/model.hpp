@@ -143,7 +143,7 @@ struct Version {
     bool newCreated = false, oldCreated = false;
     Side canceller = NOBODY;
     bool windowRanOut = false;
-    bool within = false;  // [A14] the type: within one provider
+    bool within = false;  // [A14] the type: within one provider; never where layouts.hpp has no bit for it
     bool live = false;
     Time stamp = 0;
     Time start = 0;
