@@ -27,9 +27,9 @@ extern "C" {
 
 /* The version of header and library; docs/LAYOUTS.md says what each part counts. */
 #define LUPINENBLATT_VERSION_MAJOR 0
-#define LUPINENBLATT_VERSION_MINOR 6
+#define LUPINENBLATT_VERSION_MINOR 7
 #define LUPINENBLATT_VERSION_PATCH 0
-#define LUPINENBLATT_VERSION "0.6.0"
+#define LUPINENBLATT_VERSION "0.7.0"
 #define LUPINENBLATT_VERSION_NUMBER (1000000 * LUPINENBLATT_VERSION_MAJOR + 1000 * LUPINENBLATT_VERSION_MINOR + LUPINENBLATT_VERSION_PATCH)
 
 /*
@@ -58,7 +58,7 @@ extern "C" {
  * Kinds of events, and the fields that each takes besides TN and time, which every record has. A field that is not named is 0.
  *
  *   kind                  sender         other     further fields
- *   1  new side creates   1 to 63        1 to 63   LRN, due; sender and other differ
+ *   1  new side creates   1 to 63        1 to 63   LRN, due, within; sender and other differ, or are the same exactly with within 1
  *   2  old side creates   1 to 63        1 to 63   mark, cause with "no", due; sender and other differ
  *   3  new side modifies  0 to 63        -         version, LRN, due
  *   4  old side modifies  0 to 63        -         version, mark, cause with "no", due
@@ -69,6 +69,10 @@ extern "C" {
  *
  * A create that finds a version to concur with gives the due date that the other side has there, else it is refused with 18 (up to version
  * 0.3.0 it was done).
+ *
+ * Within is 1 for a move inside one provider: new and old side are then the same, which must be the current one (12), one create suffices,
+ * nothing waits for an old side, and what goes to the old and the new side goes to it once. On such a version kind 4 is refused with 6 and
+ * kind 13 with 7 (with 6 where the sender is not the NPAC). Up to version 0.6.0 no record had the field.
  */
 #define LUPINENBLATT_NEW_CREATES 1
 #define LUPINENBLATT_OLD_CREATES 2
@@ -92,7 +96,7 @@ extern "C" {
 
 /* An event record's bytes, and its fields in the places of lupinenblatt_record_read. */
 #define LUPINENBLATT_RECORD_BYTES 24
-#define LUPINENBLATT_RECORD_FIELDS 10
+#define LUPINENBLATT_RECORD_FIELDS 11
 #define LUPINENBLATT_FIELD_KIND 0
 #define LUPINENBLATT_FIELD_SENDER 1   /* a provider, 1 to 63, or 0 for the NPAC */
 #define LUPINENBLATT_FIELD_OTHER 2    /* a provider, or 0 where the kind has none */
@@ -103,6 +107,7 @@ extern "C" {
 #define LUPINENBLATT_FIELD_VERSION 7  /* 1 to 65,535, or 0 where the kind has none */
 #define LUPINENBLATT_FIELD_TIME 8     /* seconds, 1 to 4,294,967,295 */
 #define LUPINENBLATT_FIELD_DUE 9      /* likewise, or 0 where the kind has none */
+#define LUPINENBLATT_FIELD_WITHIN 10  /* 1 for a create within one provider, otherwise 0 */
 
 /* Sizes in bytes, docs/LAYOUTS.md. A table is at most LUPINENBLATT_TABLE_ROWS whole rows; a tray needs LUPINENBLATT_TRAY_PLACES places. */
 #define LUPINENBLATT_ROW_BYTES 80
@@ -167,9 +172,9 @@ extern "C" {
 
 /*
  * The clauses that lupinenblatt_table_fault tells, in the order in which they are judged of a row; docs/FAULTS.md says them in full. Up to
- * 31 they are of a row and of the rows of its TN, without the books; 32 is told where these are sound, and 33 to 36 where the books are
- * sound too and a row clashes with an earlier one of its line. LUPINENBLATT_FAULT_NONE is the clause where nothing is at fault, of a table
- * as of books.
+ * 31 they are of a row and of the rows of its TN, without the books, and so is 37, which is judged of a row behind these; 32 is told where
+ * these are sound, and 33 to 36 where the books are sound too and a row clashes with an earlier one of its line. LUPINENBLATT_FAULT_NONE is
+ * the clause where nothing is at fault, of a table as of books.
  */
 #define LUPINENBLATT_FAULT_NONE 0
 #define LUPINENBLATT_TABLE_FAULT_LENGTH 1              /* the length is no multiple of the row's 80 bytes */
@@ -185,7 +190,7 @@ extern "C" {
 #define LUPINENBLATT_TABLE_FAULT_CANCELLER 11          /* the canceller is 3, neither side */
 #define LUPINENBLATT_TABLE_FAULT_SET 12                /* bit 0 of a set, which is nobody's, is set */
 #define LUPINENBLATT_TABLE_FAULT_RETRIES 13            /* the highest bit of a word of retries, which is nobody's, is set */
-#define LUPINENBLATT_TABLE_FAULT_SAME_PROVIDERS 14     /* new and old provider are the same */
+#define LUPINENBLATT_TABLE_FAULT_SAME_PROVIDERS 14     /* new and old provider are the same, or, within one provider, differ */
 #define LUPINENBLATT_TABLE_FAULT_NEW_SIDE 15           /* the new side's due date and LRN do not go with its having created */
 #define LUPINENBLATT_TABLE_FAULT_OLD_SIDE 16           /* the old side's due date and authorization do not go with its having created */
 #define LUPINENBLATT_TABLE_FAULT_NO_SIDE 17            /* neither side has created */
@@ -208,6 +213,7 @@ extern "C" {
 #define LUPINENBLATT_TABLE_FAULT_LINE_SENDING 34       /* a second sending version of its line; likewise */
 #define LUPINENBLATT_TABLE_FAULT_LINE_WORKED 35        /* a second worked version of its line; likewise */
 #define LUPINENBLATT_TABLE_FAULT_LINE_NUMBER 36        /* its version number stands twice in its line; likewise */
+#define LUPINENBLATT_TABLE_FAULT_WITHIN 37             /* within one provider, and the old side has created or the window mark is set */
 
 /* The clauses that lupinenblatt_books_fault tells, likewise. */
 #define LUPINENBLATT_BOOKS_FAULT_PROVIDERS 1         /* the provider list has more than 63 bytes */
@@ -230,21 +236,22 @@ extern "C" {
 /*
  * Reads an event record.
  *
- * If the bytes are 24 and a well-formed record, and the places are exactly ten, it returns LUPINENBLATT_DONE, and the places hold the ten
- * fields in the order of LUPINENBLATT_FIELD_KIND to LUPINENBLATT_FIELD_DUE. Otherwise it returns LUPINENBLATT_MALFORMED and writes nothing.
- * Written with lupinenblatt_record_write, the fields give the same 24 bytes.
+ * If the bytes are 24 and a well-formed record, and the places are exactly eleven, it returns LUPINENBLATT_DONE, and the places hold the
+ * eleven fields in the order of LUPINENBLATT_FIELD_KIND to LUPINENBLATT_FIELD_WITHIN. Otherwise it returns LUPINENBLATT_MALFORMED and writes
+ * nothing. Written with lupinenblatt_record_write, the fields give the same 24 bytes. Up to version 0.6.0 there were ten, without the last.
  */
 uint8_t lupinenblatt_record_read(const uint8_t *bytes, size_t bytes_length, uint64_t *fields, size_t fields_length);
 
 /*
  * Writes an event record.
  *
- * If the ten numbers are a well-formed event and the bytes are exactly 24, it returns LUPINENBLATT_DONE, and the bytes are the one record of
- * these fields. Otherwise it returns LUPINENBLATT_MALFORMED and writes nothing: also where a number is too wide for its field, whose low bits
- * are never taken for it. Read with lupinenblatt_record_read, the bytes give the same ten numbers.
+ * If the eleven numbers are a well-formed event and the bytes are exactly 24, it returns LUPINENBLATT_DONE, and the bytes are the one record
+ * of these fields. Otherwise it returns LUPINENBLATT_MALFORMED and writes nothing: also where a number is too wide for its field, whose low
+ * bits are never taken for it. Read with lupinenblatt_record_read, the bytes give the same eleven numbers. Up to version 0.6.0 the call took
+ * ten, without `within`; with `within` 0 it answers what it answered then.
  */
 uint8_t lupinenblatt_record_write(uint64_t kind, uint64_t sender, uint64_t other, uint64_t mark, uint64_t cause, uint64_t tn, uint64_t lrn,
-                                  uint64_t version, uint64_t time, uint64_t due, uint8_t *out, size_t out_length);
+                                  uint64_t version, uint64_t time, uint64_t due, uint64_t within, uint8_t *out, size_t out_length);
 
 /* The library's version: LUPINENBLATT_VERSION_NUMBER of the header that it was made with. */
 uint64_t lupinenblatt_version(void);
@@ -394,6 +401,7 @@ static inline uint8_t lupinenblatt_row_live(const uint8_t *row) { return (uint8_
 static inline uint8_t lupinenblatt_row_new_created(const uint8_t *row) { return (uint8_t)lupinenblatt_bits(row, 0, 8, 1); }
 static inline uint8_t lupinenblatt_row_old_created(const uint8_t *row) { return (uint8_t)lupinenblatt_bits(row, 0, 7, 1); }
 static inline uint8_t lupinenblatt_row_window_ran_out(const uint8_t *row) { return (uint8_t)lupinenblatt_bits(row, 0, 6, 1); }
+static inline uint8_t lupinenblatt_row_within(const uint8_t *row) { return (uint8_t)lupinenblatt_bits(row, 0, 5, 1); } /* 1 for a version within one provider */
 static inline uint64_t lupinenblatt_row_lrn(const uint8_t *row) { return lupinenblatt_bits(row, 1, 30, 34); }
 static inline uint8_t lupinenblatt_row_new_provider(const uint8_t *row) { return (uint8_t)lupinenblatt_bits(row, 1, 24, 6); }
 static inline uint8_t lupinenblatt_row_old_provider(const uint8_t *row) { return (uint8_t)lupinenblatt_bits(row, 1, 18, 6); }
@@ -416,17 +424,18 @@ static inline uint8_t lupinenblatt_row_retries(const uint8_t *row, unsigned prov
 }
 
 /*
- * An event with its fields by name, in the order of LUPINENBLATT_FIELD_KIND to LUPINENBLATT_FIELD_DUE. Each has 64 bits, so that a number too
- * wide for its field reaches the proved call and is refused there.
+ * An event with its fields by name, in the order of LUPINENBLATT_FIELD_KIND to LUPINENBLATT_FIELD_WITHIN. Each has 64 bits, so that a number
+ * too wide for its field reaches the proved call and is refused there.
  */
 typedef struct {
-    uint64_t kind, sender, other, mark, cause, tn, lrn, version, time, due;
+    uint64_t kind, sender, other, mark, cause, tn, lrn, version, time, due, within;
 } lupinenblatt_event;
 
 /* lupinenblatt_record_write of these fields. */
 static inline uint8_t lupinenblatt_event_write(lupinenblatt_event e, uint8_t *out, size_t out_length)
 {
-    return lupinenblatt_record_write(e.kind, e.sender, e.other, e.mark, e.cause, e.tn, e.lrn, e.version, e.time, e.due, out, out_length);
+    return lupinenblatt_record_write(e.kind, e.sender, e.other, e.mark, e.cause, e.tn, e.lrn, e.version, e.time, e.due, e.within, out,
+                                     out_length);
 }
 
 /* lupinenblatt_record_read to these fields; with LUPINENBLATT_MALFORMED they stay as they were. */
@@ -445,6 +454,7 @@ static inline uint8_t lupinenblatt_event_read(const uint8_t *bytes, size_t bytes
         e->version = f[LUPINENBLATT_FIELD_VERSION];
         e->time = f[LUPINENBLATT_FIELD_TIME];
         e->due = f[LUPINENBLATT_FIELD_DUE];
+        e->within = f[LUPINENBLATT_FIELD_WITHIN];
     }
     return said;
 }
@@ -487,7 +497,7 @@ typedef struct {
     uint64_t confirmed, waiting, failed;   /* provider n at bit n */
     uint32_t new_due, old_due, stamp, start;
     uint16_t version;
-    uint8_t status, live, new_created, old_created, window_ran_out;
+    uint8_t status, live, new_created, old_created, window_ran_out, within;
     uint8_t new_provider, old_provider, authorization, cause, canceller, purpose;
     uint8_t retries[LUPINENBLATT_PROVIDERS_BYTES + 1];   /* used by the system of provider n, at n; the first is 0 */
 } lupinenblatt_row_fields;
@@ -512,6 +522,7 @@ static inline lupinenblatt_row_fields lupinenblatt_row(const uint8_t *table, siz
     r.new_created = lupinenblatt_row_new_created(row);
     r.old_created = lupinenblatt_row_old_created(row);
     r.window_ran_out = lupinenblatt_row_window_ran_out(row);
+    r.within = lupinenblatt_row_within(row);
     r.new_provider = lupinenblatt_row_new_provider(row);
     r.old_provider = lupinenblatt_row_old_provider(row);
     r.authorization = lupinenblatt_row_authorization(row);
@@ -703,7 +714,7 @@ static inline const char *lupinenblatt_table_fault_name(uint64_t clause)
         "the canceller is 3, neither side",
         "bit 0 of a set, which is nobody's, is set",
         "the highest bit of a word of retries, which is nobody's, is set",
-        "new and old provider are the same",
+        "new and old provider are the same, or, within one provider, differ",
         "the new side's due date and LRN do not go with its having created",
         "the old side's due date and authorization do not go with its having created",
         "neither side has created",
@@ -726,6 +737,7 @@ static inline const char *lupinenblatt_table_fault_name(uint64_t clause)
         "a second sending version of its line; the second place is the other",
         "a second worked version of its line; the second place is the other",
         "its version number stands twice in its line; the second place is the other",
+        "within one provider, and the old side has created or the window mark is set",
     };
     return clause < sizeof names / sizeof *names ? names[clause] : "no clause";
 }

@@ -2,7 +2,7 @@
 -- Assumes nothing.
 use mathlib.Core.Path.{_≡_, refl, sym, ap, _∙_}
 use mathlib.Core.Bool.{Bool, true, false, _&&_}
-use mathlib.Core.List.{List, [], _∷_, _++_, append-nil}
+use mathlib.Core.List.{List, _++_, append-nil}
 use Prim.Native.Nat.{ℕ, _<_}
 use native.Mathlib.Nat.{zero-add, le-of-eq}
 use native.Mathlib.Omega.{arith}
@@ -15,10 +15,10 @@ use Rattle.model.specs.declared.Reading.{Reading}
 use Rattle.model.specs.declared.Reading.the-variants.{Record, Malformed}
 use Rattle.model.specs.Numbers.{tenDigits}
 use Rattle.model.specs.Record.{named, typeFits, kindFits, fitsBits, wellFormed}
-use Rattle.packing.specs.Layout.{tenOf, eventOf, Written}
+use Rattle.packing.specs.Layout.{elevenOf, eventOf, Written}
 use Rattle.packing.proofs.Inverse.{bits-at, said-done}
 use Rattle.record.proofs.Codec.{refused-fields}
-use Rattle.fields.specs.Calls.{handedTo, handedNumber, Handed, Narrow}
+use Rattle.fields.specs.Calls.{FIELDS, handedTo, handedNumber, Handed, Narrow}
 
 -- ---- reading
 
@@ -30,45 +30,48 @@ set-all vs xs h =
     ∙ ap (λ (l : List ℕ). vs ++ l) (drop-of-length-le xs {i = length vs} (le-of-eq h))
     ∙ append-nil vs
 
-pub handed-refused : (r : Reading) (xs : List ℕ) → (length xs ≡ 10 → ⊥) → Handed r xs xs 2
+pub handed-refused : (r : Reading) (xs : List ℕ) → (length xs ≡ FIELDS → ⊥) → Handed r xs xs 2
 unfolding handedTo handedNumber
-handed-refused (Record e) xs n = record { after = simp (ne-eqb (length xs) 10 n); said = simp (ne-eqb (length xs) 10 n) }
+handed-refused (Record e) xs n = record { after = simp (ne-eqb (length xs) FIELDS n); said = simp (ne-eqb (length xs) FIELDS n) }
 handed-refused Malformed xs n = record { after = refl; said = refl }
 
-pub handed-record : (r : Reading) (e : Event) (xs ys : List ℕ) → r ≡ Record e → length xs ≡ 10 → ys ≡ tenOf e → Handed r xs ys 0
+pub handed-record : (r : Reading) (e : Event) (xs ys : List ℕ) → r ≡ Record e → length xs ≡ FIELDS → ys ≡ elevenOf e → Handed r xs ys 0
 unfolding handedTo handedNumber
-handed-record r e xs ys q h p = record { after = rw q (simp (eq-eqb (length xs) 10 h) p); said = rw q (simp (eq-eqb (length xs) 10 h)) }
+handed-record r e xs ys q h p =
+    let eleven : eqb (length xs) FIELDS ≡ true = eq-eqb (length xs) FIELDS h in
+    record { after = rw q (simp eleven p); said = rw q (simp eleven) }
 
 pub handed-malformed : (r : Reading) (xs : List ℕ) → r ≡ Malformed → Handed r xs xs 2
 unfolding handedTo handedNumber
 handed-malformed r xs q = record { after = rw q; said = rw q }
 
--- what a reading of a record hands to ten places
-pub handed-is : (r : Reading) (e : Event) (xs ys : List ℕ) (n : ℕ) → r ≡ Record e → length xs ≡ 10 → Handed r xs ys n
-    → (ys ≡ tenOf e) × (n ≡ 0)
+-- what a reading of a record hands to eleven places
+pub handed-is : (r : Reading) (e : Event) (xs ys : List ℕ) (n : ℕ) → r ≡ Record e → length xs ≡ FIELDS → Handed r xs ys n
+    → (ys ≡ elevenOf e) × (n ≡ 0)
 unfolding handedTo handedNumber
 handed-is r e xs ys n q l h =
-    (h .after ∙ rw q (simp (eq-eqb (length xs) 10 l)), h .said ∙ rw q (simp (eq-eqb (length xs) 10 l)))
+    (h .after ∙ rw q (simp (eq-eqb (length xs) FIELDS l)), h .said ∙ rw q (simp (eq-eqb (length xs) FIELDS l)))
 
--- a reading that says 0 was of a record, and handed it over; the version type, which no record has, is not among the fields
-pub handed-done : (r : Reading) (xs ys : List ℕ) → ((e : Event) → r ≡ Record e → e .within ≡ 0) → Handed r xs ys 0 → r ≡ Record (eventOf ys)
+-- a reading that says 0 was of a record, and handed it over
+pub handed-done : (r : Reading) (xs ys : List ℕ) → Handed r xs ys 0 → r ≡ Record (eventOf ys)
 unfolding handedTo handedNumber
-handed-done (Record e) xs ys z h =
-    let b : eqb (length xs) 10 ≡ true = said-done (eqb (length xs) 10) (h .said) in
-    let p : ys ≡ tenOf e = h .after ∙ simp b in
-    ap (λ (n : ℕ). Record (eventOf (tenOf e ++ (n ∷ [])))) (z e refl) ∙ ap (λ (l : List ℕ). Record (eventOf l)) (sym p)
-handed-done Malformed xs ys z h = absurd (omega (arith, h .said))
+handed-done (Record e) xs ys h =
+    let b : eqb (length xs) FIELDS ≡ true = said-done (eqb (length xs) FIELDS) (h .said) in
+    let p : ys ≡ elevenOf e = h .after ∙ simp b in
+    ap (λ (l : List ℕ). Record (eventOf l)) (sym p)
+handed-done Malformed xs ys h = absurd (omega (arith, h .said))
 
 -- ---- writing
 
 -- fields that fit their bits fit their types
 pub narrow : (e : Event) (b : Bool) → b ≡ fitsBits e → b ≡ true
-    → Narrow (e .kind) (e .sender) (e .other) (e .mark) (e .cause) (e .version) (e .time) (e .due)
+    → Narrow (e .kind) (e .sender) (e .other) (e .mark) (e .cause) (e .version) (e .time) (e .due) (e .within)
 narrow e b q f =
     let at = bits-at e (sym q ∙ f) in
     let s : e .sender < 64 = at 1 in
     let o : e .other < 64 = at 2 in
     let m : e .mark < 4 = at 3 in
+    let w : e .within < 2 = at 10 in
     record {
       kind-fits = at 0;
       sender-fits = omega arith;
@@ -78,6 +81,7 @@ narrow e b q f =
       version-fits = at 7;
       time-fits = at 8;
       due-fits = at 9;
+      within-fits = omega arith;
     }
 
 -- fields too wide for their bits are refused

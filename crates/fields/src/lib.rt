@@ -1,18 +1,21 @@
-// The record and its ten fields as numbers, both ways, for callers that have no structs. [E6]
+// The record and its eleven fields as numbers, both ways, for callers that have no structs. [E6]
 ghost use mathlib.Core.Path.{_≡_};
 ghost use lib.ListN.{length};
 ghost use Rattle.model.specs.Record.{fitsBits};
-ghost use Rattle.packing.specs.Layout.{tenOf, readEvent, Written};
-ghost use Rattle.fields.specs.Calls.{event, Handed, Narrow};
+ghost use Rattle.packing.specs.Layout.{elevenOf, readEvent, Written};
+ghost use Rattle.fields.specs.Calls.{event, FIELDS, Handed, Narrow};
 use model::Event;
 use model::Lrn;
 use model::Reading;
 use model::Tn;
 
-// The ten fields in the paper's order, to ten places.
+// The places for a record's fields.
+pub const FIELDS: usize = 11;
+
+// The eleven fields in the paper's order, to eleven places.
 fn store(e: Event, fields: &mut [u64])
-    requires { ⌜ length (now fields) ≡ 10 ⌝ }
-    ensures { λ _. ⌜ now (fields .exit) ≡ tenOf e ⌝ }
+    requires { ⌜ length (now fields) ≡ FIELDS ⌝ }
+    ensures { λ _. ⌜ now (fields .exit) ≡ elevenOf e ⌝ }
 {
     fields[0] = e.kind as u64;
     fields[1] = e.sender as u64;
@@ -24,13 +27,15 @@ fn store(e: Event, fields: &mut [u64])
     fields[7] = e.version as u64;
     fields[8] = e.time as u64;
     fields[9] = e.due as u64;
+    fields[10] = e.within as u64;
 }
 
-// Reads a record: its ten fields to exactly ten places, and 0; 2 where it is malformed or the places are not ten, and nothing is written.
+// Reads a record: its eleven fields to exactly eleven places, and 0; 2 where it is malformed or the places are not eleven, and nothing is
+// written.
 pub fn read(bytes: &[u8], fields: &mut [u64]) -> u8
     ensures { λ r. ⌜ Handed (readEvent (now (bytes .entry))) (now (fields .entry)) (now (fields .exit)) r ⌝ }
 {
-    if fields.len() != 10 {
+    if fields.len() != FIELDS {
         return 2;
     }
     let got = record::read(bytes);
@@ -54,8 +59,9 @@ fn fits_bits(
     version: u64,
     time: u64,
     due: u64,
+    within: u64,
 ) -> bool
-    ensures { λ r. ⌜ r ≡ fitsBits (event kind sender other mark cause tn lrn version time due) ⌝ }
+    ensures { λ r. ⌜ r ≡ fitsBits (event kind sender other mark cause tn lrn version time due within) ⌝ }
 {
     (kind < 0x100)
         & (sender < 64)
@@ -67,6 +73,7 @@ fn fits_bits(
         & (version < 0x1_0000)
         & (time < 0x1_0000_0000)
         & (due < 0x1_0000_0000)
+        & (within < 2)
 }
 
 fn narrowed(
@@ -80,9 +87,10 @@ fn narrowed(
     version: u64,
     time: u64,
     due: u64,
+    within: u64,
 ) -> Event
-    requires { ⌜ Narrow kind sender other mark cause version time due ⌝ }
-    ensures { λ r. ⌜ r ≡ event kind sender other mark cause tn lrn version time due ⌝ }
+    requires { ⌜ Narrow kind sender other mark cause version time due within ⌝ }
+    ensures { λ r. ⌜ r ≡ event kind sender other mark cause tn lrn version time due within ⌝ }
 {
     let t = Tn(tn);
     let l = Lrn(lrn);
@@ -97,12 +105,12 @@ fn narrowed(
         version: version as u16,
         time: time as u32,
         due: due as u32,
-        within: 0,
+        within: within as u8,
     }
 }
 
-// Writes the record of ten fields to 24 bytes, and 0; 2 where they are malformed, a number is too wide for its field, or the bytes are not
-// 24, and nothing is written.
+// Writes the record of eleven fields to 24 bytes, and 0; 2 where they are malformed, a number is too wide for its field, or the bytes are
+// not 24, and nothing is written.
 pub fn write(
     kind: u64,
     sender: u64,
@@ -114,9 +122,10 @@ pub fn write(
     version: u64,
     time: u64,
     due: u64,
+    within: u64,
     out: &mut [u8],
 ) -> u8
-    ensures { λ r. ⌜ Written (event kind sender other mark cause tn lrn version time due) (now (out .entry)) (now (out .exit)) r ⌝ }
+    ensures { λ r. ⌜ Written (event kind sender other mark cause tn lrn version time due within) (now (out .entry)) (now (out .exit)) r ⌝ }
 {
     if fits_bits(
         kind,
@@ -129,6 +138,7 @@ pub fn write(
         version,
         time,
         due,
+        within,
     ) {
         let e = narrowed(
             kind,
@@ -141,6 +151,7 @@ pub fn write(
             version,
             time,
             due,
+            within,
         );
         record::write(e, out)
     } else {

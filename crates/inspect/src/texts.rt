@@ -52,10 +52,15 @@ pub fn put_line(text: &[u8], place: u64, first: u64, last: u64) {
     }
 }
 
-// Of a table, by the clause: the number that it is about, and another. The last two lines are the other halves of clauses 26 and 24.
-pub const NOT_LIVE: u64 = 37;
+// Of a table, by the clause: the number that it is about, and another. The last four lines are the other halves of clauses 26, 24, 14 and
+// 37.
+pub const NOT_LIVE: u64 = 38;
 
-pub const NOBODY_WAITS: u64 = 38;
+pub const NOBODY_WAITS: u64 = 39;
+
+pub const TWO_PROVIDERS: u64 = 40;
+
+pub const WINDOW_MARKED: u64 = 41;
 
 // Without the end of the line.
 pub fn of_row(clause: u64, about: u64, with: u64) {
@@ -97,8 +102,11 @@ pub fn of_row(clause: u64, about: u64, with: u64) {
         a second sending version of its line beside row #\n\
         a second worked version of its line beside row #\n\
         the number stands twice in its line, beside row #\n\
+        within one provider, and the old side has created\n\
         not live in status #\n\
-        nobody waits in status #",
+        nobody waits in status #\n\
+        within one provider, but the new provider is # and the old #\n\
+        within one provider, and the window mark is set",
         clause,
         about,
         with,

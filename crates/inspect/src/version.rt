@@ -7,7 +7,6 @@ use words::ROW;
 // The number that a clause is about.
 fn about(clause: u64, v: Version) -> u64 {
     match clause {
-        14 => v.new.provider as u64,
         20 => v.canceller as u64,
         23 => v.cast.start as u64,
         25 => v.cast.purpose as u64,
@@ -15,13 +14,19 @@ fn about(clause: u64, v: Version) -> u64 {
     }
 }
 
-// The text of a clause that forbids a thing in one status and asks for it in another.
+// The text of a clause that forbids a thing in one status or type and asks for it in another, or forbids two things.
 fn half(clause: u64, v: Version) -> u64 {
     if clause == 26 && !v.live {
         return texts::NOT_LIVE;
     }
     if clause == 24 && v.cast.waiting == 0 {
         return texts::NOBODY_WAITS;
+    }
+    if clause == 14 && v.within {
+        return texts::TWO_PROVIDERS;
+    }
+    if clause == 37 && !v.old.created {
+        return texts::WINDOW_MARKED;
     }
     clause
 }
@@ -42,8 +47,9 @@ fn say_row(f: Fault, v: Version) {
     }
     let clause = f.clause;
     match clause {
+        14 => texts::of_table(half(14, v), v.new.provider as u64, v.old.provider as u64),
         19 => texts::of_table(19, v.old.cause as u64, v.old.authorization as u64),
-        24 | 26 => texts::of_table(half(clause, v), status, 0),
+        24 | 26 | 37 => texts::of_table(half(clause, v), status, 0),
         _ => texts::of_table(clause, about(clause, v), status),
     }
 }
@@ -71,8 +77,10 @@ fn say_beside(f: Fault, v: Version, table: &[u8]) {
     }
 }
 
-// The clauses of lines.
+// The clauses of lines, from the first to the last.
 const LINE: u64 = 33;
+
+const LAST_LINE: u64 = 36;
 
 pub fn say(f: Fault, table: &[u8]) {
     if f.place == 0 {
@@ -83,7 +91,7 @@ pub fn say(f: Fault, table: &[u8]) {
     let i = (f.place - 1) as usize;
     if i < table.len() / ROW {
         let v = rows::load(table, i);
-        if f.clause >= LINE {
+        if LINE <= f.clause && f.clause <= LAST_LINE {
             say_beside(f, v, table);
             return;
         }

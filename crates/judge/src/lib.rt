@@ -138,7 +138,10 @@ fn unready(e: Event, v: Version) -> bool
     ensures { λ r. ⌜ r ≡ unready e v ⌝ }
 {
     if e.kind == kind::ACTIVATE {
-        return !(v.old.created | v.window);
+        return !(v.old.created | v.window | v.within);
+    }
+    if e.kind == kind::WINDOW_RAN_OUT {
+        return v.within;
     }
     if (e.kind == kind::MODIFY_ACTIVE) | (e.kind == kind::DISCONNECT) {
         return v.cast.failed != 0;

@@ -3,7 +3,7 @@ ghost use mathlib.Core.Path.{_≡_};
 ghost use Rattle.model.specs.Numbers.{tenDigits};
 ghost use Rattle.model.specs.Record.{twoSides, authorizes as authorizesWith, newCreates, oldCreates, newModifies, oldModifies};
 ghost use Rattle.model.specs.Record.{modifiesActive, replies as repliesTo, silent as silentOf, plainly as plainlyOf, kindFits, fitsBits};
-ghost use Rattle.model.specs.Record.{typeFits, wellFormed};
+ghost use Rattle.model.specs.Record.{typeFits, sidesNamed, wellFormed};
 use model::Event;
 use model::Lrn;
 use model::Tn;
@@ -43,10 +43,19 @@ fn authorizes(mark: u8, cause: u8) -> bool
         | ((mark == mark::NO) & (0 < cause) & (cause <= limit::CAUSE))
 }
 
+fn sides_named(e: Event) -> bool
+    ensures { λ r. ⌜ r ≡ sidesNamed e ⌝ }
+{
+    if e.within == 1 {
+        return (0 < e.sender) & (e.sender == e.other);
+    }
+    two_sides(e.sender, e.other)
+}
+
 fn new_creates(e: Event) -> bool
     ensures { λ r. ⌜ r ≡ newCreates e ⌝ }
 {
-    two_sides(e.sender, e.other)
+    sides_named(e)
         & (e.mark == mark::NONE)
         & (e.cause == 0)
         & is_lrn(e.lrn)
@@ -159,11 +168,11 @@ fn fits_bits(e: Event) -> bool
         & (e.within < 2)
 }
 
-// No kind takes the version type.
+// Kind 1 alone takes the version type.
 fn type_fits(e: Event) -> bool
     ensures { λ r. ⌜ r ≡ typeFits e ⌝ }
 {
-    e.within == 0
+    (e.within == 0) | (e.kind == kind::NEW_CREATES)
 }
 
 pub fn well_formed(e: Event) -> bool

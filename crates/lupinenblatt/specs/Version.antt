@@ -2,6 +2,6 @@
 -- Assumes nothing.
 use Prim.Native.Nat.{ℕ, _+_, _*_}
 
--- 0.6.0: major, minor, patch
+-- 0.7.0: major, minor, patch
 abbrev pub version : ℕ
-version = 1000000 * 0 + 1000 * 6 + 0
+version = 1000000 * 0 + 1000 * 7 + 0

@@ -12,7 +12,8 @@ pub mod version;
 // R at most, as a word.
 const MOST_RETRIES: u64 = limit::RETRIES as u64;
 
-// Reads a record: its ten fields to exactly ten places, and 0; 2 where it is malformed or the places are not ten, and nothing is written.
+// Reads a record: its eleven fields to exactly eleven places, and 0; 2 where it is malformed or the places are not eleven, and nothing is
+// written.
 #[no_mangle]
 pub extern "C" fn lupinenblatt_record_read(bytes: &[u8], fields: &mut [u64]) -> u8
     ensures { λ r. ⌜ Handed (readEvent (now (bytes .entry))) (now (fields .entry)) (now (fields .exit)) r ⌝ }
@@ -20,8 +21,8 @@ pub extern "C" fn lupinenblatt_record_read(bytes: &[u8], fields: &mut [u64]) -> 
     fields::read(bytes, fields)
 }
 
-// Writes the record of ten fields to 24 bytes, and 0; 2 where they are malformed, a number is too wide for its field, or the bytes are not
-// 24, and nothing is written.
+// Writes the record of eleven fields to 24 bytes, and 0; 2 where they are malformed, a number is too wide for its field, or the bytes are
+// not 24, and nothing is written.
 #[no_mangle]
 pub extern "C" fn lupinenblatt_record_write(
     kind: u64,
@@ -34,9 +35,10 @@ pub extern "C" fn lupinenblatt_record_write(
     version: u64,
     time: u64,
     due: u64,
+    within: u64,
     out: &mut [u8],
 ) -> u8
-    ensures { λ r. ⌜ Written (event kind sender other mark cause tn lrn version time due) (now (out .entry)) (now (out .exit)) r ⌝ }
+    ensures { λ r. ⌜ Written (event kind sender other mark cause tn lrn version time due within) (now (out .entry)) (now (out .exit)) r ⌝ }
 {
     fields::write(
         kind,
@@ -49,6 +51,7 @@ pub extern "C" fn lupinenblatt_record_write(
         version,
         time,
         due,
+        within,
         out,
     )
 }

@@ -4,7 +4,7 @@ ghost use Rattle.lupinenblatt.specs.Version.{version};
 
 const MAJOR: u64 = 0;
 
-const MINOR: u64 = 6;
+const MINOR: u64 = 7;
 
 const PATCH: u64 = 0;
 

@@ -24,7 +24,7 @@ use Rattle.model.specs.Closing.{open?, closed, closingTold, settlingTold
 use Rattle.model.specs.Broadcast.{opened, broadcasts}
 use Rattle.model.specs.Answers.{answers, heard, askedAgain, again, answering}
 use Rattle.model.specs.Step.{manages, accepted, judged, rule, Setting, line, unsound, given, step, stepOf, after}
-use Rattle.model.proofs.Lists.{clash}
+use Rattle.model.proofs.Lists.{clash, either}
 use Rattle.model.proofs.Ways.{by-test, by-way, by-worked, by-kind, by-order}
 use Rattle.model.proofs.Arrivals.{member-none}
 use Rattle.model.proofs.Apart.{stepBy, Fine, fine, rows-out}
@@ -52,11 +52,8 @@ modest-accept ms cs h = record { few = h; nothing-sent = λ q. clash (sym q); no
 
 -- the sides of v, told of w
 sides-few : (v w : Version) (sort failed : ℕ) (lrn : Lrn) → length (toSoas w sort failed lrn (sidesTold v)) ≤ 2
-sides-few v w sort failed lrn = go (v .within)
-  where
-    go : (b : Bool) → length (toSoas w sort failed lrn (cond b (v .new .provider ∷ []) (v .old .provider ∷ v .new .provider ∷ []))) ≤ 2
-    go true = omega arith
-    go false = omega arith
+sides-few v w sort failed lrn =
+    either (λ (ps : List ℕ). length (toSoas w sort failed lrn ps) ≤ 2) (v .within) (omega arith) (omega arith)
 
 told-status : (w : Version) → length (statusTold w) ≤ 2
 told-status w = sides-few w w status 0 noLrn

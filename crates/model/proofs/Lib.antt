@@ -19,6 +19,7 @@ pub mod SoundAnswers
 pub mod SoundOpened
 pub mod SoundLines
 pub mod SoundLaws
+pub mod Typed
 pub mod SoundSides
 pub mod SoundFresh
 pub mod SoundKinds
@@ -33,6 +34,7 @@ pub mod Partners
 pub mod Entries
 pub mod Cells
 pub mod Stages
-pub mod Worked
 pub mod Twins
+pub mod Within
+pub mod Worked
 pub mod Theorems

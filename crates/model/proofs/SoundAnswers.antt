@@ -163,7 +163,7 @@ module _ (most : ℕ) (small : most ≤ 7) (e : Event) (v : Version) (row : Row 
           (used (v .cast .retries) (answering e))
           (retries-fit most small e (v .cast)) (cast-ranges (v .cast) (row .ranges .cast)));
     };
-    differ = row .differ;
+    providers = row .providers;
     new = row .new;
     old = row .old;
     created = purposed-created v row (back (λ (s : ℕ). isPurposed s ≡ true) refl);

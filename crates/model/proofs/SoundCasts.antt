@@ -11,7 +11,7 @@ use Rattle.model.specs.Basics.{among, iff, implies}
 use Rattle.model.specs.Numbers.{isTime}
 use Rattle.model.specs.Sound.{conflict, cancelPending, sending, failure, partialFailure, active, old, isWorked, isSending, needsNew}
 use Rattle.model.specs.Sound.{isStatus, isLive}
-use Rattle.model.specs.Sound.{isPurposed, activate, sidesDiffer, newWhole, oldWhole, sidesNeeded, causeFits, setsApart, retriesFit}
+use Rattle.model.specs.Sound.{isPurposed, activate, providersFit, newWhole, oldWhole, sidesNeeded, causeFits, setsApart, retriesFit}
 use Rattle.model.specs.Sound.{liveConfirmed, withinFits, sends}
 use Rattle.model.specs.Closing.{open?, closeBy, closeTo, closed, retired}
 use Rattle.model.proofs.Lists.{clash, and-r, both-true, or-l, iff-false, back-equal}
@@ -23,7 +23,7 @@ use Rattle.model.specs.declared.Version.{Version}
 -- a version in a broadcast, whether or not anybody is still asked
 pub record Casting (w : Version) : Type 0 where
   pub ranges : Ranges w
-  pub differ : sidesDiffer w ≡ true
+  pub providers : providersFit w ≡ true
   pub new : newWhole (w .new) ≡ true
   pub old : oldWhole (w .old) ≡ true
   pub created : w .new .created ≡ true
@@ -52,7 +52,7 @@ pub row-open : (w : Version) → Casting w → open? w ≡ true → Row w
 unfolding sidesNeeded
 row-open w c o = record {
   ranges = c .ranges;
-  differ = c .differ;
+  providers = c .providers;
   new = c .new;
   old = c .old;
   one = or-l (w .new .created) (w .old .created) (c .created);
@@ -212,7 +212,7 @@ row-closed w c o = go (closeTo (w .cast)) (at-closed (w .cast))
           retries = r .retries;
         });
       };
-      differ = c .differ;
+      providers = c .providers;
       new = c .new;
       old = c .old;
       one = or-l (w .new .created) (w .old .created) (c .created);
@@ -299,7 +299,7 @@ row-retired stamp x time row l n =
               retries = r .retries;
             });
       };
-      differ = row .differ;
+      providers = row .providers;
       new = row .new;
       old = row .old;
       one = row .one;

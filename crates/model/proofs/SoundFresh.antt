@@ -1,26 +1,27 @@
 -- A fresh version is sound.
 -- Assumes nothing.
-use mathlib.Core.Path.{_≡_, refl, sym}
+use mathlib.Core.Path.{_≡_, refl}
 use Prim.Native.Nat.{ℕ, suc, _<_}
 use mathlib.Core.Bool.{Bool, true, false, cond, not, _&&_, _||_}
-use mathlib.Core.List.{List, [], _∷_}
+use mathlib.Core.List.{List}
 use lib.Dec.{eqb, leb}
 use native.Mathlib.Omega.{arith}
-use borrow.Author.Tests.{eqb-false, ltb-true, le-leb, ne-eqb, not-true}
+use borrow.Author.Tests.{le-leb}
 use Rattle.systems.specs.Set.{member}
-use Rattle.model.specs.Basics.{implies, every}
+use Rattle.model.specs.Basics.{iff, implies, every}
 use Rattle.model.specs.Numbers.{tenDigits, isNumber, isTime, isProvider}
 use Rattle.model.specs.Retries.{octal, used}
 use Rattle.model.specs.Sound.{pending, conflict, cancelPending, no, newWhole, oldWhole, causeFits, sidesNeeded, setsApart, apart}
 use Rattle.model.specs.Sound.{retriesFit, retriesInRange, castInRange}
-use Rattle.model.specs.Record.{isCreate, named, twoSides, wellFormed}
+use Rattle.model.specs.Record.{isCreate, isWithin, wellFormed}
 use Rattle.model.specs.Creates.{newFrom, oldFrom, newAbsent, oldAbsent, statusBy, noBroadcast, freshVersion}
 use Rattle.model.specs.Given.{newest}
-use Rattle.model.proofs.Lists.{clash, both-true, conj-at}
+use Rattle.model.proofs.Lists.{clash, both-true}
 use Rattle.model.proofs.Formed.{Fields, fields}
 use Rattle.model.proofs.SoundRows.{Row, Calm, calm0, calm1, calm-cond}
 use Rattle.model.proofs.SoundAnswers.{time-is}
-use Rattle.model.proofs.SoundSides.{new-fields, old-fields, new-from, old-from}
+use Rattle.model.proofs.SoundSides.{new-from, old-from}
+use Rattle.model.proofs.Typed.{new-fields, old-fields, create-sides, untyped}
 use Rattle.model.specs.declared.Id.{Id}
 use Rattle.model.specs.declared.NewSide.{NewSide}
 use Rattle.model.specs.declared.OldSide.{OldSide}
@@ -39,8 +40,8 @@ none-cast : castInRange noBroadcast ≡ true
 unfolding castInRange retriesInRange
 none-cast = refl
 
-abbrev blank : Id → ℕ → ℕ → NewSide → OldSide → Version
-blank id status stamp new old =
+abbrev blank : Bool → Id → ℕ → ℕ → NewSide → OldSide → Version
+blank within id status stamp new old =
     record {
       id = id;
       status = status;
@@ -50,19 +51,20 @@ blank id status stamp new old =
       old = old;
       canceller = 0;
       window = false;
-      within = false;
+      within = within;
       cast = noBroadcast;
     }
 
-blank-row : (id : Id) (s t : ℕ) (n : NewSide) (o : OldSide) → tenDigits (id .tn .0) ≡ true → isNumber (id .number) ≡ true → isTime t ≡ true
-    → isProvider (n .provider) ≡ true → isProvider (o .provider) ≡ true → eqb (n .provider) (o .provider) ≡ false
+blank-row : (w : Bool) (id : Id) (s t : ℕ) (n : NewSide) (o : OldSide) → tenDigits (id .tn .0) ≡ true → isNumber (id .number) ≡ true
+    → isTime t ≡ true → isProvider (n .provider) ≡ true → isProvider (o .provider) ≡ true → iff w (eqb (n .provider) (o .provider)) ≡ true
+    → implies w (not (o .created) && true) ≡ true
     → newWhole n ≡ true → oldWhole o ≡ true
     → causeFits o ≡ true → (n .created || o .created) ≡ true → Calm s → eqb s cancelPending ≡ false
-    → implies (eqb s conflict) (o .created) ≡ true → Row (blank id s t n o)
+    → implies (eqb s conflict) (o .created) ≡ true → Row (blank w id s t n o)
 unfolding sidesNeeded
-blank-row id s t n o tn number time pn po d wn wo c one q no2 clashes = record {
+blank-row w id s t n o tn number time pn po d single wn wo c one q no2 clashes = record {
   ranges = record { tn = tn; number = number; status = q .small; stamp = time; new = pn; old = po; canceller = refl; cast = none-cast };
-  differ = rw d;
+  providers = d;
   new = wn;
   old = wo;
   one = one;
@@ -77,11 +79,8 @@ blank-row id s t n o tn number time pn po d wn wo c one q no2 clashes = record {
   purpose = rw (q .aimless, q .no45);
   live = rw (q .no3, q .no56);
   confirmed = refl;
-  within = refl;
+  within = single;
 }
-
-provider-is : (p : ℕ) → named p ≡ true → p < 64 → isProvider p ≡ true
-provider-is p h l = both-true (leb 1 p) (leb p 63) (le-leb 1 p (ltb-true 0 p h)) (le-leb p 63 (omega arith))
 
 -- an absent side
 no-side : (p : ℕ) → oldWhole (oldAbsent p) ≡ true
@@ -100,16 +99,6 @@ module _ (e : Event) (formed : wellFormed e ≡ true) (r : List Version) (room :
   f : Fields e
   f = fields e formed
 
-  -- the two providers of a create
-  sides : twoSides (e .sender) (e .other) ≡ true → (isProvider (e .sender) ≡ true) × (isProvider (e .other) ≡ true)
-      × (eqb (e .sender) (e .other) ≡ false)
-  sides h =
-      let of = conj-at (named (e .sender) ∷ named (e .other) ∷ not (eqb (e .sender) (e .other)) ∷ []) h in
-      (provider-is (e .sender) (of 0) (f .sender), provider-is (e .other) (of 1) (f .other), not-true (eqb (e .sender) (e .other)) (of 2))
-
-  turned : (a b : ℕ) → eqb a b ≡ false → eqb b a ≡ false
-  turned a b h = ne-eqb b a (λ q. eqb-false a b h (sym q))
-
   pub row-fresh : isCreate (e .kind) ≡ true → Row (freshVersion e r)
   unfolding freshVersion
   row-fresh k = go (eqb (e .kind) 1) refl (eqb (e .kind) 2) refl
@@ -124,29 +113,31 @@ module _ (e : Event) (formed : wellFormed e ≡ true) (r : List Version) (room :
       time : isTime (e .time) ≡ true
       time = time-is (e .time) (f .timed) (f .time)
 
+      alone : (w : Bool) → implies w true ≡ true
+      alone true = refl
+      alone false = refl
+
       go : (a : Bool) → eqb (e .kind) 1 ≡ a → (b : Bool) → eqb (e .kind) 2 ≡ b
-          → Row (blank (record { tn = e .tn; number = suc (newest r) })
+          → Row (blank (isWithin e) (record { tn = e .tn; number = suc (newest r) })
           (statusBy (cond a (oldAbsent (cond a (e .other) (e .sender))) (oldFrom e (cond a (e .other) (e .sender)))) pending) (e .time)
           (cond a (newFrom e (cond a (e .sender) (e .other))) (newAbsent (cond a (e .sender) (e .other))))
           (cond a (oldAbsent (cond a (e .other) (e .sender))) (oldFrom e (cond a (e .other) (e .sender)))))
       go true p b q =
-          let d = sides (new-fields e formed p 0) in
-          blank-row id pending (e .time) (newFrom e (e .sender)) (oldAbsent (e .other)) (f .number) number time (d .0) (d .1) (d .2)
+          let d = rw p at (create-sides e formed k) in
+          blank-row (isWithin e) id pending (e .time) (newFrom e (e .sender)) (oldAbsent (e .other)) (f .number) number time (d .0) (d .1)
+          (d .2) (alone (isWithin e))
           (new-from e (e .sender) f (new-fields e formed p 5) (new-fields e formed p 3)) (no-side (e .other)) (no-cause (e .other))
           refl calm0 refl refl
       go false p true q =
-          let d = sides (old-fields e formed q 0) in
+          let d = rw p at (create-sides e formed k) in
           let w = old-from e (oldFrom e (e .sender)) refl refl refl refl f (old-fields e formed q 4) (old-fields e formed q 1) in
-          blank-row id (cond (eqb (e .mark) no) conflict pending) (e .time) (newAbsent (e .other)) (oldFrom e (e .sender)) (f .number)
-          number time (d .1) (d .0)
-          (turned (e .sender) (e .other) (d .2)) (no-new (e .other)) (w .0) (w .1) refl (calm-cond (eqb (e .mark) no) calm1 calm0)
-          (plain (eqb (e .mark) no)) (always (eqb (cond (eqb (e .mark) no) conflict pending) conflict))
+          rw (untyped e formed p)
+          (blank-row false id (cond (eqb (e .mark) no) conflict pending) (e .time) (newAbsent (e .other)) (oldFrom e (e .sender))
+          (f .number) number time (d .0) (d .1)
+          (rw (untyped e formed p) at (d .2)) refl (no-new (e .other)) (w .0) (w .1) refl (calm-cond (eqb (e .mark) no) calm1 calm0)
+          (plain (eqb (e .mark) no)) (alone (eqb (cond (eqb (e .mark) no) conflict pending) conflict)))
         where
           plain : (x : Bool) → eqb (cond x conflict pending) cancelPending ≡ false
           plain true = refl
           plain false = refl
-
-          always : (x : Bool) → implies x true ≡ true
-          always true = refl
-          always false = refl
       go false p false q = clash (rw (p, q) at k)

@@ -2,7 +2,7 @@
 -- Assumes nothing.
 use mathlib.Core.Path.{_≡_, refl, sym, ap, _∙_}
 use Prim.Native.Nat.{ℕ, _^_, _≤_}
-use mathlib.Core.Bool.{Bool, true, false, cond, not, _&&_, _||_, or-true, and-false}
+use mathlib.Core.Bool.{Bool, true, false, cond, _&&_, _||_, or-true, and-false}
 use mathlib.Core.List.{[], _∷_}
 use lib.Dec.{eqb, leb, ltb}
 use native.Mathlib.Omega.{arith}
@@ -14,7 +14,7 @@ use Rattle.model.specs.Retries.{used, noRetries}
 use Rattle.model.specs.Sound.{pending, cancelPending, failure, partialFailure, active, isPurposed, isSending, activate, modify}
 use Rattle.model.specs.Sound.{disconnect, isLive, newWhole, retriesFit, retriesInRange}
 use Rattle.model.specs.Record.{isBroadcast, named, unused, wellFormed}
-use Rattle.model.specs.Standing.{standingOf, standsFor, statusFor}
+use Rattle.model.specs.Standing.{standingOf, standsFor, statusFor, unready}
 use Rattle.model.specs.Broadcast.{resends, purposeFor, askedFor, newFor, opened}
 use Rattle.model.proofs.Lists.{clash, and-l, and-r, both-true, conj-at, or-but, iff-true, iff-false, at-equal, back-equal}
 use Rattle.model.proofs.Arrivals.{member-none}
@@ -58,6 +58,7 @@ none-used = refl
 pub record Allowed (e : Event) (v : Version) : Type 0 where
   pub stands : standsFor (e .kind) (standingOf e v) ≡ true
   pub allowed : statusFor (e .kind) (v .status) ≡ true
+  pub ready : unready e v ≡ false
 
 module _ (e : Event) (v : Version) (al : Allowed e v) where
   pub status-of : (n : ℕ) → eqb (e .kind) n ≡ true → statusFor n (v .status) ≡ true
@@ -263,7 +264,7 @@ module _ (selected : ℕ) (set : isSet selected ≡ true) (e : Event) (formed : 
             retries = none-used;
           });
         };
-        differ = ap (λ (p : ℕ). not (eqb p (v .old .provider))) (new-same .0) ∙ row .differ;
+        providers = ap (λ (p : ℕ). iff (v .within) (eqb p (v .old .provider))) (new-same .0) ∙ row .providers;
         new = new-whole;
         old = row .old;
         created = new-same .1 ∙ aim .created;

@@ -12,7 +12,7 @@ use Rattle.model.specs.Basics.{among, iff, implies, none, with}
 use Rattle.model.specs.Numbers.{tenDigits, isNumber, isTime, isProvider, isSet}
 use Rattle.model.specs.Sound.{pending, conflict, cancelPending, failure, partialFailure, old, canceled, isWorked, isSending}
 use Rattle.model.specs.Sound.{needsNew, isStatus, isLive}
-use Rattle.model.specs.Sound.{isPurposed, inRange, castInRange, retriesInRange, sidesDiffer, newWhole, oldWhole, oneCreated}
+use Rattle.model.specs.Sound.{isPurposed, inRange, castInRange, retriesInRange, providersFit, newWhole, oldWhole, oneCreated}
 use Rattle.model.specs.Sound.{sidesNeeded, causeFits, cancellerFits, setsApart, retriesFit, startFits, waitingFits, purposeFits}
 use Rattle.model.specs.Sound.{liveFits, liveConfirmed, withinFits, soundVersion}
 use Rattle.model.proofs.Lists.{clash, conj-at, conj-all, both-true}
@@ -78,7 +78,7 @@ of-ranges v r =
 
 pub record Row (v : Version) : Type 0 where
   pub ranges : Ranges v
-  pub differ : sidesDiffer v ≡ true
+  pub providers : providersFit v ≡ true
   pub new : newWhole (v .new) ≡ true
   pub old : oldWhole (v .old) ≡ true
   pub one : oneCreated v ≡ true
@@ -96,7 +96,7 @@ pub record Row (v : Version) : Type 0 where
 
 abbrev clauses : Version → List Bool
 clauses v =
-    inRange v ∷ sidesDiffer v ∷ newWhole (v .new) ∷ oldWhole (v .old) ∷ oneCreated v ∷ sidesNeeded v ∷ causeFits (v .old) ∷ cancellerFits v
+    inRange v ∷ providersFit v ∷ newWhole (v .new) ∷ oldWhole (v .old) ∷ oneCreated v ∷ sidesNeeded v ∷ causeFits (v .old) ∷ cancellerFits v
     ∷ setsApart (v .cast) ∷ retriesFit (v .cast) ∷ startFits v ∷ waitingFits v ∷ purposeFits v ∷ liveFits v ∷ liveConfirmed v
     ∷ withinFits v ∷ []
 
@@ -106,7 +106,7 @@ row-of v h =
     let of : (i : ℕ) → getD (clauses v) i true ≡ true = conj-at (clauses v) h in
     record {
       ranges = ranges-of v (of 0);
-      differ = of 1;
+      providers = of 1;
       new = of 2;
       old = of 3;
       one = of 4;
@@ -128,7 +128,7 @@ unfolding soundVersion
 of-row v r =
     conj-all (clauses v)
     (with (of-ranges v (r .ranges))
-    (with (r .differ) (with (r .new)
+    (with (r .providers) (with (r .new)
     (with (r .old) (with (r .one)
     (with (r .needed) (with (r .cause)
     (with (r .canceller) (with (r .apart)
@@ -189,9 +189,10 @@ iff-at : (a : Bool) {x y : Bool} → x ≡ y → iff a x ≡ true → iff a y �
 iff-at a e h = subst (λ b. iff a b ≡ true) e h
 
 pub row-calm : (v : Version) (s t : ℕ) (n : NewSide) (o : OldSide) (c : ℕ) (x : Bool) → Row v → Calm (v .status) → Calm s → isTime t ≡ true
-    → n .provider ≡ v .new .provider → o .provider ≡ v .old .provider → Sided s n o c → Row (restated v s t n o c x)
+    → n .provider ≡ v .new .provider → o .provider ≡ v .old .provider → Sided s n o c
+    → implies (v .within) (not (o .created) && not x) ≡ true → Row (restated v s t n o c x)
 unfolding sidesNeeded
-row-calm v s t n o c x row p q time pn po d = record {
+row-calm v s t n o c x row p q time pn po d single = record {
   ranges = record {
     tn = row .ranges .tn;
     number = row .ranges .number;
@@ -202,7 +203,7 @@ row-calm v s t n o c x row p q time pn po d = record {
     canceller = d .small;
     cast = row .ranges .cast;
   };
-  differ = ap₂ (λ (a b : ℕ). not (eqb a b)) pn po ∙ row .differ;
+  providers = ap₂ (λ (a b : ℕ). iff (v .within) (eqb a b)) pn po ∙ row .providers;
   new = d .new;
   old = d .old;
   one = d .one;
@@ -218,5 +219,5 @@ row-calm v s t n o c x row p q time pn po d = record {
   purpose = rw (q .aimless, q .no45) (rw (p .aimless, p .no45) at (row .purpose));
   live = rw (q .no3, q .no56) (rw (p .no3, p .no56) at (row .live));
   confirmed = row .confirmed;
-  within = row .within;
+  within = single;
 }

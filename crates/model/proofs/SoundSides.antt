@@ -3,7 +3,7 @@
 use mathlib.Core.Path.{_≡_, refl}
 use Prim.Native.Nat.{ℕ, suc, _≤_}
 use mathlib.Core.Bool.{Bool, true, false, cond, not, _&&_, _||_, or-true}
-use mathlib.Core.List.{List, [], _∷_}
+use mathlib.Core.List.{[], _∷_}
 use lib.Dec.{eqb, leb, ltb}
 use lib.ListN.{getD}
 use native.Mathlib.Omega.{arith}
@@ -12,15 +12,16 @@ use Rattle.model.specs.Basics.{among, iff, implies}
 use Rattle.model.specs.Numbers.{tenDigits, isTime}
 use Rattle.model.specs.Sound.{pending, conflict, cancelPending, canceled, yes, no, isWorked, newWhole, oldWhole, sidesNeeded}
 use Rattle.model.specs.Sound.{causeFits}
-use Rattle.model.specs.Record.{isCreate, named, unused, twoSides, authorizes, wellFormed}
-use Rattle.model.specs.Standing.{standingOf}
-use Rattle.model.specs.Creates.{byNew, newIn, oldIn, newFrom, oldFrom, statusBy, fits, concurred}
+use Rattle.model.specs.Record.{isCreate, named, unused, authorizes, wellFormed}
+use Rattle.model.specs.Standing.{standingOf, unready}
+use Rattle.model.specs.Creates.{newFrom, oldFrom, statusBy, fits, concurred}
 use Rattle.model.specs.Changes.{newModified, oldModified, turned, cancelled, acknowledged, resolved, windowTurned, windowMarked}
 use Rattle.model.proofs.Lists.{clash, and-l, and-r, both-true, conj-at, back-equal}
 use Rattle.model.proofs.Formed.{Fields, fields, at-kind}
 use Rattle.model.specs.Versions.{restated}
 use Rattle.model.proofs.SoundRows.{Row, Calm, calm0, calm1, calm2, calm8, calm-cond, calm-worked, Sided, row-calm}
 use Rattle.model.proofs.SoundCasts.{no-canceller}
+use Rattle.model.proofs.Typed.{new-fields, old-fields, fitted, between}
 use Rattle.model.proofs.SoundAnswers.{time-is}
 use Rattle.model.proofs.SoundOpened.{stands-new, stands-old, Allowed, status-of, stands-of}
 use Rattle.model.specs.declared.NewSide.{NewSide}
@@ -101,21 +102,6 @@ old-from e o pa pc pd cr f d a =
       rw (pa, pc) (r .1),
     )
 
--- what a create says
-abbrev newSays : Event → List Bool
-newSays e = twoSides (e .sender) (e .other) ∷ unused (e .mark) ∷ unused (e .cause) ∷ tenDigits (e .lrn .0) ∷ unused (e .version)
-    ∷ named (e .due) ∷ []
-
-abbrev oldSays : Event → List Bool
-oldSays e = twoSides (e .sender) (e .other) ∷ authorizes (e .mark) (e .cause) ∷ unused (e .lrn .0) ∷ unused (e .version)
-    ∷ named (e .due) ∷ []
-
-pub new-fields : (e : Event) → wellFormed e ≡ true → eqb (e .kind) 1 ≡ true → (i : ℕ) → getD (newSays e) i true ≡ true
-new-fields e formed k = conj-at (newSays e) (at-kind e formed 1 (eqb-true (e .kind) 1 k))
-
-pub old-fields : (e : Event) → wellFormed e ≡ true → eqb (e .kind) 2 ≡ true → (i : ℕ) → getD (oldSays e) i true ≡ true
-old-fields e formed k = conj-at (oldSays e) (at-kind e formed 2 (eqb-true (e .kind) 2 k))
-
 -- ---- an event of a kind that may come, on a worked version
 module _ (e : Event) (formed : wellFormed e ≡ true) (v : Version) (row : Row v) where
   f : Fields e
@@ -127,9 +113,9 @@ module _ (e : Event) (formed : wellFormed e ≡ true) (v : Version) (row : Row v
   -- the status goes to s, the sides stay
   turned-row : (s c : ℕ) (x : Bool) → isWorked (v .status) ≡ true → Calm s → implies (eqb s conflict) (v .old .created) ≡ true
       → implies (eqb s cancelPending) (v .new .created && v .old .created) ≡ true → leb c 2 ≡ true
-      → iff (ltb 0 c) (eqb s cancelPending) ≡ true → Row (turned e v s c x)
-  turned-row s c x w q a b l i =
-      row-calm v s (e .time) (v .new) (v .old) c x row (calm-worked (v .status) w) q time refl refl (sided v row s c a b l i)
+      → iff (ltb 0 c) (eqb s cancelPending) ≡ true → implies (v .within) (not (v .old .created) && not x) ≡ true → Row (turned e v s c x)
+  turned-row s c x w q a b l i single =
+      row-calm v s (e .time) (v .new) (v .old) c x row (calm-worked (v .status) w) q time refl refl (sided v row s c a b l i) single
 
   module _ (al : Allowed e v) where
     -- pending or conflict
@@ -170,6 +156,7 @@ module _ (e : Event) (formed : wellFormed e ≡ true) (v : Version) (row : Row v
           small = row .ranges .canceller;
           canceller = row .canceller;
         })
+        (row .within)
 
     -- 4
     pub row-old-modified : eqb (e .kind) 4 ≡ true → Row (oldModified e v)
@@ -197,6 +184,7 @@ module _ (e : Event) (formed : wellFormed e ≡ true) (v : Version) (row : Row v
           small = row .ranges .canceller;
           canceller = unmarked v row (s .1) (cond (eqb (e .mark) no) conflict pending) (plain (eqb (e .mark) no));
         })
+        (row .within)
       where
         always : (x : Bool) → v .old .created ≡ true → implies x (v .old .created) ≡ true
         always true h = h
@@ -219,7 +207,7 @@ module _ (e : Event) (formed : wellFormed e ≡ true) (v : Version) (row : Row v
 
         alone : Row (turned e v canceled (v .canceller) (v .window))
         alone = turned-row canceled (v .canceller) (v .window) (s .0) calm8 refl refl (row .ranges .canceller)
-            (unmarked v row (s .1) canceled refl)
+            (unmarked v row (s .1) canceled refl) (row .within)
 
         go : (a : Bool) → v .new .created ≡ a → (b : Bool) → v .old .created ≡ b
             → Row (cond (a && b) (turned e v cancelPending (suc (standingOf e v)) (v .window))
@@ -228,6 +216,7 @@ module _ (e : Event) (formed : wellFormed e ≡ true) (v : Version) (row : Row v
             turned-row cancelPending (suc (standingOf e v)) (v .window) (s .0) calm2 refl
             (both-true (v .new .created) (v .old .created) p q)
             (le-leb (suc (standingOf e v)) 2 (omega (arith, side))) (rw (lt-ltb 0 (suc (standingOf e v)) (omega arith)))
+            (row .within)
         go true p false q = alone
         go false p b q = alone
 
@@ -236,6 +225,7 @@ module _ (e : Event) (formed : wellFormed e ≡ true) (v : Version) (row : Row v
     unfolding acknowledged
     row-acknowledged k = turned-row canceled 0 (v .window)
         (back-equal (v .status) 2 (λ (s : ℕ). isWorked s ≡ true) (status-of e v al 7 k) refl) calm8 refl refl refl refl
+        (row .within)
 
     -- 8
     pub row-resolved : eqb (e .kind) 8 ≡ true → Row (resolved e v)
@@ -258,6 +248,7 @@ module _ (e : Event) (formed : wellFormed e ≡ true) (v : Version) (row : Row v
           small = row .ranges .canceller;
           canceller = unmarked v row (back-equal (v .status) 1 (λ (s : ℕ). eqb s cancelPending ≡ false) q refl) pending refl;
         })
+        (row .within)
 
     -- 13
     pub window-status : eqb (e .kind) 13 ≡ true → isWorked (v .status) ≡ true
@@ -275,35 +266,37 @@ module _ (e : Event) (formed : wellFormed e ≡ true) (v : Version) (row : Row v
       where
         go : (a : Bool) → eqb (v .status) cancelPending ≡ a → (b : Bool) → eqb (v .canceller) 1 ≡ b
             → Row (cond a (turned e v (cond b canceled conflict) 0 (v .window)) (turned e v canceled (v .canceller) (v .window)))
-        go true p true q = turned-row canceled 0 (v .window) (window-status k) calm8 refl refl refl refl
+        go true p true q = turned-row canceled 0 (v .window) (window-status k) calm8 refl refl refl refl (row .within)
         go true p false q =
             turned-row conflict 0 (v .window) (window-status k) calm1
-            (and-r (v .new .created) (v .old .created) (rw p at (needed-in v row .1))) refl refl refl
+            (and-r (v .new .created) (v .old .created) (rw p at (needed-in v row .1))) refl refl refl (row .within)
         go false p b q = turned-row canceled (v .canceller) (v .window) (window-status k) calm8 refl refl (row .ranges .canceller)
-            (unmarked v row p canceled refl)
+            (unmarked v row p canceled refl) (row .within)
 
     pub row-window-marked : eqb (e .kind) 13 ≡ true → Row (windowMarked e v)
-    unfolding windowMarked
+    unfolding windowMarked unready
     row-window-marked k =
         turned-row (v .status) (v .canceller) true (window-status k) (calm-worked (v .status) (window-status k)) (needed-in v row .0)
         (needed-in v row .1)
-        (row .ranges .canceller) (row .canceller)
+        (row .ranges .canceller) (row .canceller) (rw between)
+      where
+        between : v .within ≡ false
+        between = rw (back-equal (e .kind) 13 (λ (n : ℕ). eqb n 5 ≡ false) k refl, k) at (al .ready)
 
   -- 1 and 2, concurrence
   pub row-concurred : isCreate (e .kind) ≡ true → isWorked (v .status) ≡ true → fits e v ≡ true → Row (concurred e v)
-  unfolding concurred fits
+  unfolding concurred
   row-concurred k w h = go (eqb (e .kind) 1) refl (eqb (e .kind) 2) refl
     where
       open? : eqb (v .status) cancelPending ≡ false
-      open? = not-true (eqb (v .status) cancelPending)
-          (conj-at (not (eqb (v .status) cancelPending) ∷ eqb (v .new .provider) (newIn e) ∷ eqb (v .old .provider) (oldIn e)
-          ∷ not (cond (byNew e) (v .new .created) (v .old .created)) ∷ []) h 0)
+      open? = not-true (eqb (v .status) cancelPending) (fitted e v h 0)
 
       by : (n : NewSide) (o : OldSide) → n .provider ≡ v .new .provider → o .provider ≡ v .old .provider → newWhole n ≡ true
           → oldWhole o ≡ true → causeFits o ≡ true
-          → (n .created || o .created) ≡ true → (v .old .created ≡ true → o .created ≡ true) → (x : Bool) → eqb (o .authorization) no ≡ x
+          → (n .created || o .created) ≡ true → (v .old .created ≡ true → o .created ≡ true)
+          → implies (v .within) (not (o .created) && not (v .window)) ≡ true → (x : Bool) → eqb (o .authorization) no ≡ x
           → Row (restated v (cond x conflict (v .status)) (e .time) n o (v .canceller) (v .window))
-      by n o pn po wn wo c one up x q =
+      by n o pn po wn wo c one up single x q =
           row-calm v (cond x conflict (v .status)) (e .time) n o (v .canceller) (v .window) row (calm-worked (v .status) w)
           (calm-cond x calm1 (calm-worked (v .status) w)) time pn po
           (record {
@@ -316,6 +309,7 @@ module _ (e : Event) (formed : wellFormed e ≡ true) (v : Version) (row : Row v
             small = row .ranges .canceller;
             canceller = unmarked v row open? (cond x conflict (v .status)) (no2 x);
           })
+          single
         where
           no2 : (x : Bool) → eqb (cond x conflict (v .status)) cancelPending ≡ false
           no2 true = refl
@@ -336,9 +330,10 @@ module _ (e : Event) (formed : wellFormed e ≡ true) (v : Version) (row : Row v
       go true p b q =
           by (newFrom e (v .new .provider)) (v .old) refl refl
           (new-from e (v .new .provider) f (new-fields e formed p 5) (new-fields e formed p 3)) (row .old) (row .cause) refl (λ z. z)
-          (eqb (v .old .authorization) no) refl
+          (row .within) (eqb (v .old .authorization) no) refl
       go false p true q =
           let o : OldSide = oldFrom e (v .old .provider) in
           let r = old-from e o refl refl refl refl f (old-fields e formed q 4) (old-fields e formed q 1) in
-          by (v .new) o refl refl (row .new) (r .0) (r .1) (or-true (v .new .created)) (λ z. refl) (eqb (e .mark) no) refl
+          by (v .new) o refl refl (row .new) (r .0) (r .1) (or-true (v .new .created)) (λ z. refl) (rw (between e formed k v row h))
+          (eqb (e .mark) no) refl
       go false p false q = clash (rw (p, q) at k)

@@ -35,9 +35,9 @@ use Rattle.model.specs.declared.Outcome.the-variants.{Malformed, Unknown
 allowed : (e : Event) (v : Version) → lacksStanding e v ≡ false → wrongStatus e v ≡ false → Allowed e v
 unfolding gridRule
 allowed e v a b =
-    let r = go (standsFor (e .kind) (standingOf e v)) (statusFor (e .kind) (v .status)) a
-    (or-off (eqb (gridRule (v .status) (e .kind) (standingOf e v)) 7) (unready e v) b .0) in
-    record { stands = r .0; allowed = r .1 }
+    let passed = or-off (eqb (gridRule (v .status) (e .kind) (standingOf e v)) 7) (unready e v) b in
+    let r = go (standsFor (e .kind) (standingOf e v)) (statusFor (e .kind) (v .status)) a (passed .0) in
+    record { stands = r .0; allowed = r .1; ready = passed .1 }
   where
     go : (x y : Bool) → eqb (cond x (cond y 0 7) 6) 6 ≡ false → eqb (cond x (cond y 0 7) 6) 7 ≡ false → (x ≡ true) × (y ≡ true)
     go true true p q = (refl, refl)

@@ -131,8 +131,8 @@ asksNobody = setting (filter 1 303555 ∷ filter 2 303555 ∷ filter 3 303555 �
 
 -- ---- the events, of TN 3035550100 where nothing else is said
 
-abbrev pub event : ℕ → ℕ → ℕ → ℕ → ℕ → ℕ → ℕ → ℕ → ℕ → Event
-event kind sender other mark tn lrn version time due = record {
+abbrev pub eventAs : ℕ → ℕ → ℕ → ℕ → ℕ → ℕ → ℕ → ℕ → ℕ → ℕ → Event
+eventAs within kind sender other mark tn lrn version time due = record {
   kind = kind;
   sender = sender;
   other = other;
@@ -143,8 +143,11 @@ event kind sender other mark tn lrn version time due = record {
   version = version;
   time = time;
   due = due;
-  within = 0;
+  within = within;
 }
+
+abbrev pub event : ℕ → ℕ → ℕ → ℕ → ℕ → ℕ → ℕ → ℕ → ℕ → Event
+event = eventAs 0
 
 abbrev pub tn : ℕ
 tn = 3035550100
@@ -181,10 +184,11 @@ resend n t = event 14 0 0 0 tn 0 n t 0
 abbrev pub purge : ℕ → ℕ → Event
 purge n t = event 15 0 0 0 tn 0 n t 0
 
--- ---- rows, to start with or to come out: TN, number, status, stamp, whether live, the sides, whether the window ran out, the broadcast
+-- ---- rows, to start with or to come out: type, TN, number, status, stamp, whether live, the sides, whether the window ran out, the
+-- broadcast
 
-abbrev pub rowFor : ℕ → ℕ → ℕ → ℕ → Bool → NewSide → OldSide → Bool → Broadcast → Version
-rowFor number n status stamp live new old window cast = record {
+abbrev pub rowAs : Bool → ℕ → ℕ → ℕ → ℕ → Bool → NewSide → OldSide → Bool → Broadcast → Version
+rowAs within number n status stamp live new old window cast = record {
   id = record { tn = record { 0 = number }; number = n };
   status = status;
   stamp = stamp;
@@ -193,9 +197,12 @@ rowFor number n status stamp live new old window cast = record {
   old = old;
   canceller = 0;
   window = window;
-  within = false;
+  within = within;
   cast = cast;
 }
+
+abbrev pub rowFor : ℕ → ℕ → ℕ → ℕ → Bool → NewSide → OldSide → Bool → Broadcast → Version
+rowFor = rowAs false
 
 abbrev pub row : ℕ → ℕ → ℕ → Bool → NewSide → OldSide → Bool → Broadcast → Version
 row = rowFor tn

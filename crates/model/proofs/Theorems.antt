@@ -9,17 +9,20 @@ use lib.Dec.{eqb}
 use lib.ListN.{length, getD}
 use Rattle.systems.specs.Set.{member}
 use Rattle.model.specs.Basics.{All, any, holds}
+use Rattle.model.specs.Kinds as kind
 use Rattle.model.specs.Numbers.{codeOf}
 use Rattle.model.specs.Books.{Books}
 use Rattle.model.specs.Selection.{classOf, isSelected, selectedFor}
 use Rattle.model.specs.Broadcast.{resends, opened, broadcasts}
 use Rattle.model.specs.Table.{rowsOf, find}
-use Rattle.model.specs.Sound.{soundTable, lastStatus}
-use Rattle.model.specs.Record.{isCreate}
+use Rattle.model.specs.Sound.{soundTable, soundVersion, canceled, lastStatus}
+use Rattle.model.specs.Record.{isCreate, isWithin, wellFormed}
 use Rattle.model.specs.Outcomes.{isDone}
 use Rattle.model.specs.Given.{Given, workedOne}
 use Rattle.model.specs.Refusals.{refuses}
-use Rattle.model.specs.Standing.{gridRule, kindAt, gridKinds, gridEntries}
+use Rattle.model.specs.Creates.{currentFor, fits}
+use Rattle.model.specs.Changes.{cancelled}
+use Rattle.model.specs.Standing.{gridRule, kindAt, gridKinds, gridEntries, unready, lacksStanding, wrongStatus}
 use Rattle.model.specs.Step.{Setting, line, unsound, step, stepOf, after}
 use Rattle.model.specs.Exchange.{Demand3, Same}
 use Rattle.model.proofs.Lists.{clash}
@@ -29,9 +32,11 @@ use Rattle.model.proofs.Concurring.{alone, concurs}
 use Rattle.model.proofs.Asking.{toLocalSms, asked, told, shown, classes}
 use Rattle.model.proofs.Effects.{modest-step, fine-step, other-rows}
 use Rattle.model.proofs.Stages.{passes, allPass, asks12}
-use Rattle.model.proofs.Twins.{twins, twins-computed}
+use Rattle.model.proofs.Twins.{twins}
+use Rattle.model.proofs.Within.{never-concurs, owned, cancels-at-once, no-old-side, no-window, ready-alone}
+use Rattle.model.proofs.Within.{insides}
 use Rattle.model.proofs.Worked.{examples, worked-examples, listing, the-listing, slips, slips-shut-out, dueDates, dates-shown}
-use Rattle.model.proofs.Worked.{waitingTable, inOrder, places, Instance, an-instance}
+use Rattle.model.proofs.Worked.{twins-computed, insides-computed, waitingTable, inOrder, places, Instance, an-instance}
 use Rattle.model.proofs.Cells.{cells, entries, by-place}
 use Rattle.model.specs.declared.Version.{Version}
 use Rattle.model.specs.declared.Event.{Event}
@@ -115,6 +120,38 @@ another-due-alone = alone
 -- [A3.1 to A3.5, A3.7]
 pub lines-shown : allPass twins ≡ true
 lines-shown = twins-computed
+
+-- Within one provider one create suffices: none concurs where the create or the version is of the type. [A14.1]
+pub within-never-concurs : (e : Event) (v : Version) → wellFormed e ≡ true → isCreate (e .kind) ≡ true → soundVersion v ≡ true
+    → (isWithin e || v .within) ≡ true → fits e v ≡ false
+within-never-concurs = never-concurs
+
+-- A create of the type is done for the line's current provider alone. [A14.11]
+pub within-by-the-current : (s : Setting) (e : Event) (t : List Version) → isWithin e ≡ true → isDone (stepOf s e t .out) ≡ true
+    → e .sender ≡ currentFor (s .books) e (rowsOf (line s) (line s (e .tn .0)) t)
+within-by-the-current = owned
+
+-- On a sound version of the type a cancel acts at once, 4 is refused with 6 and 13 with 7 (or with 6), and an activation waits for nobody:
+-- of a version of the type only the new side has created. [A14.2, A14.4, A14.6, A14.12]
+pub within-cancels-at-once : (e : Event) (v : Version) → soundVersion v ≡ true → v .within ≡ true → cancelled e v .status ≡ canceled
+within-cancels-at-once = cancels-at-once
+
+pub within-no-old-side : (e : Event) (v : Version) → soundVersion v ≡ true → v .within ≡ true → eqb (e .kind) kind.oldModifies ≡ true
+    → lacksStanding e v ≡ true
+within-no-old-side = no-old-side
+
+pub within-no-window : (e : Event) (v : Version) → soundVersion v ≡ true → v .within ≡ true → eqb (e .kind) kind.windowRanOut ≡ true
+    → wrongStatus e v ≡ true
+within-no-window = no-window
+
+pub within-ready : (e : Event) (v : Version) → soundVersion v ≡ true → v .within ≡ true → eqb (e .kind) kind.activate ≡ true
+    → unready e v ≡ false
+within-ready = ready-alone
+
+-- Moves inside one provider, on twelve tables: who may, what is told once, what is refused, what is malformed and what is unsound.
+-- [A14.1 to A14.8, A14.10 to A14.12]
+pub within-shown : allPass insides ≡ true
+within-shown = insides-computed
 
 -- The due dates of A4, on four tables: 18 for either side, in conflict alike, by the date that the row has now; 8, 12 and 9 before it; a
 -- modify that parts the dates again. [A4.1, A4.2]

@@ -1,6 +1,6 @@
--- Worked: one line under the two codes of a split pair, event by event. Every outcome, message and row is computed. [A3.1 to A3.7]
+-- Worked tables: one line under the two codes of a split pair, event by event. Worked computes every outcome, message and row.
+-- [A3.1 to A3.7]
 -- Assumes nothing.
-use mathlib.Core.Path.{_≡_, refl}
 use Prim.Native.Nat.{ℕ}
 use mathlib.Core.Bool.{true, false}
 use mathlib.Core.List.{List, [], _∷_, map}
@@ -8,28 +8,9 @@ use Rattle.model.specs.Creates.{oldAbsent, noBroadcast}
 use Rattle.model.specs.Sound.{pending, sending, active, old, activate}
 use Rattle.model.specs.Step.{Setting}
 use Rattle.model.specs.Tray.{status, attributes, download}
-use Rattle.model.proofs.Stages.{Example, allPass, nobody, only, both, everybody, filter, event, tn, lrn, newSide, success}
+use Rattle.model.proofs.Stages.{Example, nobody, only, both, everybody, filter, event, tn, lrn, newSide, success}
 use Rattle.model.proofs.Stages.{rowFor, row, newBy, oldBy, single, agreedOn, cast, sends, closes, canceledOne}
 use Rattle.model.proofs.Stages.{messageFor, createdFor, createdTo, attributesTo, statusTo, downloadsTo, done, refused, given}
-use Rattle.model.specs.Answers.{again, moved, heard, askedAgain, answers}
-use Rattle.model.specs.Basics.{every}
-use Rattle.model.specs.Books.{ownerOf, partnerOf, filters, soundMarks, soundCodes, soundFilters, soundSplits, soundBooks, lineIn}
-use Rattle.model.specs.Broadcast.{askedFor, opened, broadcasts}
-use Rattle.model.specs.Changes.{newModified, oldModified, cancelled, acknowledged, ownCancel, resolved, windowTurned, windowMarked}
-use Rattle.model.specs.Changes.{windowSpent, windowRuns}
-use Rattle.model.specs.Closing.{closeTo, closed, retired, retires, closingTold, settled, settles, settlingTold}
-use Rattle.model.specs.Creates.{currentFor, freshVersion, fits, concurred, creates}
-use Rattle.model.specs.Record.{kindFits, fitsBits, wellFormed}
-use Rattle.model.specs.Refusals.{early, busyWith, busy, unawaited, notCurrent, unfit, anotherDue, exhausted, full}
-use Rattle.model.specs.Retries.{octal, withOctal, used, withUsed}
-use Rattle.model.specs.Selection.{skipped, classOf, selectedFor}
-use Rattle.model.specs.Sound.{retriesInRange, castInRange, inRange, newWhole, oldWhole, sidesNeeded, causeFits, apart, setsApart}
-use Rattle.model.specs.Sound.{retriesFit, soundVersion, oneEach, soundLines, soundTable, noneTwice, soundLine}
-use Rattle.model.specs.Standing.{standingOf, gridRule, unready}
-use Rattle.model.specs.Step.{manages, accepted, rule, unsound, step}
-use Rattle.model.specs.Table.{order}
-use Rattle.model.specs.Tray.{members}
-use Rattle.systems.specs.Set.{member, maskOf, meet, count as size}
 use Rattle.model.specs.declared.Version.{Version}
 
 -- providers 1 to 3 with Local SMSs; 303555 is owned by 1, its partner 303556 by the given one; 3 filters both, so 1 and 2 are asked
@@ -69,7 +50,7 @@ former = row 1 old 132 false (newBy 2) (oldBy 1) false (cast 0 0 both nobody nob
 abbrev taken : Version
 taken = rowFor twin 2 active 132 true (newBy 3) (oldBy 2) false (cast activate 0 both nobody nobody)
 
-pub twins : List Example
+unfoldable pub twins : List Example
 twins =
     -- Created under one name: concurrence, activation and a reply under the other find the version, which keeps its name in row and
     -- messages.
@@ -115,13 +96,3 @@ twins =
     (done (event 2 1 2 1 tn 0 0 20 100) (map (messageFor twin false attributes 1 pending nobody lrn) (1 ∷ 2 ∷ []))
     (canceledOne 2 5 ∷ rowFor twin 1 pending 20 false (newBy 2) (oldBy 1) false noBroadcast ∷ []) ∷ [])
     ∷ []
-
-pub twins-computed : allPass twins ≡ true
-unfolding accepted acknowledged again anotherDue answers apart askedAgain askedFor broadcasts busy busyWith cancelled castInRange causeFits
-    classOf closeTo closed closingTold concurred creates currentFor early every exhausted filters fits fitsBits freshVersion full gridRule
-    heard inRange kindFits lineIn manages members moved newModified newWhole noneTwice notCurrent octal oldModified oldWhole oneEach opened
-    order ownCancel ownerOf partnerOf resolved retired retires retriesFit retriesInRange rule selectedFor setsApart settled settles
-    settlingTold sidesNeeded skipped soundBooks soundCodes soundFilters soundLine soundLines soundMarks soundSplits soundTable soundVersion
-    standingOf step unawaited unfit unready unsound used wellFormed windowMarked windowRuns windowSpent windowTurned withOctal withUsed
-    member maskOf meet size twins
-twins-computed = refl

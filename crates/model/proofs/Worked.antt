@@ -1,6 +1,6 @@
 -- The worked examples of document 01: P1 to P8 as one table with one statement, the step program's listing, its slips, the due dates of
--- request A4, and an instance of demand 3. After each event everything is compared: the outcome, every field of every message, every field
--- of every row. [H5, Z1]
+-- request A4, the tables of A3 and A14 (Twins, Within), and an instance of demand 3. After each event everything is compared: the outcome,
+-- every field of every message, every field of every row. [H5, Z1]
 -- Assumes nothing.
 use mathlib.Core.Path.{_≡_, refl}
 use Prim.Native.Nat.{ℕ}
@@ -33,6 +33,8 @@ use Rattle.model.specs.declared.Version.{Version}
 use Rattle.model.specs.declared.NewSide.{NewSide}
 use Rattle.model.specs.declared.OldSide.{OldSide}
 use Rattle.model.proofs.Stages.{Stage, Example, passes, allPass}
+use Rattle.model.proofs.Twins.{twins}
+use Rattle.model.proofs.Within.{insides}
 use Rattle.model.proofs.Stages.{nobody, only, both, everybody, filter, setting, asks12, asksNobody, event, tn, lrn, newSide}
 use Rattle.model.proofs.Stages.{oldSide, activation, success, failing, silence, ending, resend, purge}
 use Rattle.model.proofs.Stages.{rowFor, row, newBy, oldBy, single, agreedOn, cast, sends, closes, earlier, canceledOne, liveOne}
@@ -333,14 +335,15 @@ pub record Instance : Type 0 where
 -- ---- the statements
 
 computed : (allPass examples ≡ true) × (passes listing ≡ true) × (allPass slips ≡ true) × (allPass dueDates ≡ true)
+    × (allPass twins ≡ true) × (allPass insides ≡ true)
 unfolding accepted acknowledged again anotherDue answered apart askedAgain askedFor broadcasts busy busyWith cancelled castInRange causeFits
     classOf closeTo closed closingTold concurred creates currentFor early every exhausted filters fits fitsBits freshVersion full gridRule
     heard inRange kindFits lineIn manages members moved newModified newWhole noneTwice notCurrent octal oldModified oldWhole oneEach opened
     order ownCancel ownerOf partnerOf resolved retired retires retriesFit retriesInRange rule selectedFor setsApart settled settles
     settlingTold sidesNeeded skipped soundBooks soundCodes soundFilters soundLine soundLines soundMarks soundSplits soundTable soundVersion
     standingOf step unawaited unfit unready unsound used wellFormed windowMarked windowRuns windowSpent windowTurned withOctal withUsed
-    member maskOf meet size examples listing slips dueDates
-computed = (refl, refl, refl, refl)
+    member maskOf meet size examples listing slips dueDates twins insides
+computed = (refl, refl, refl, refl, refl, refl)
 
 pub worked-examples : allPass examples ≡ true
 worked-examples = computed .0
@@ -353,6 +356,12 @@ slips-shut-out = computed .2
 
 pub dates-shown : allPass dueDates ≡ true
 dates-shown = computed .3
+
+pub twins-computed : allPass twins ≡ true
+twins-computed = computed .4
+
+pub insides-computed : allPass insides ≡ true
+insides-computed = computed .5
 
 pub an-instance : Instance
 unfolding accepted acknowledged again anotherDue answered apart askedAgain askedFor broadcasts busy busyWith cancelled castInRange causeFits

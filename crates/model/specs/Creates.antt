@@ -13,6 +13,7 @@ use Rattle.model.specs.Versions.{restated}
 use Rattle.model.specs.Retries.{noRetries}
 use Rattle.model.specs.Sound.{pending, conflict, cancelPending, no}
 use Rattle.model.specs.Standing.{nobody}
+use Rattle.model.specs.Record.{isWithin}
 use Rattle.model.specs.Given.{Result, accept, newest, liveOne, workedOne}
 use Rattle.model.specs.Tray.{noLrn, createdTold, restatedTold}
 use Rattle.model.specs.declared.NewSide.{NewSide}
@@ -64,7 +65,7 @@ oldJoined e s = cond (byNew e) s (oldFrom e (s .provider))
 abbrev pub statusBy : OldSide → ℕ → ℕ
 statusBy s else = cond (eqb (s .authorization) no) conflict else
 
--- ---- a fresh version [C2]
+-- ---- a fresh version [C2, A14.1]
 
 abbrev pub noBroadcast : Broadcast
 noBroadcast = record { purpose = 0; start = 0; confirmed = 0; waiting = 0; failed = 0; retries = noRetries }
@@ -80,7 +81,7 @@ freshNumbered e n = record {
   old = oldJoined e (oldAbsent (oldIn e));
   canceller = nobody;
   window = false;
-  within = false;
+  within = isWithin e;
   cast = noBroadcast;
 }
 

@@ -52,14 +52,22 @@ authorizes mark cause = (eqb mark yes && unused cause) || (eqb mark no && named 
 abbrev pub results : ℕ → Bool
 results mark = eqb mark yes || eqb mark no
 
--- The version type, within one provider: no kind takes it.
-abbrev pub typeFits : Event → Bool
-typeFits e = unused (e .within)
+-- the version type, within one provider
+abbrev pub isWithin : Event → Bool
+isWithin e = eqb (e .within) 1
 
--- 1: sender, other = old, LRN, due
+-- Kind 1 alone takes the type, [A14.10]
+abbrev pub typeFits : Event → Bool
+typeFits e = unused (e .within) || eqb (e .kind) kind.newCreates
+
+-- and sender and other are then equal. [A14.5, A14.10]
+abbrev pub sidesNamed : Event → Bool
+sidesNamed e = cond (isWithin e) (named (e .sender) && eqb (e .sender) (e .other)) (twoSides (e .sender) (e .other))
+
+-- 1: sender, other = old, LRN, due, type
 abbrev pub newCreates : Event → Bool
 newCreates e =
-    twoSides (e .sender) (e .other) && unused (e .mark) && unused (e .cause) && tenDigits (e .lrn .0)
+    sidesNamed e && unused (e .mark) && unused (e .cause) && tenDigits (e .lrn .0)
     && unused (e .version) && named (e .due)
 
 -- 2: sender, other = new, authorization, cause, due

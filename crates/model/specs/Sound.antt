@@ -111,9 +111,9 @@ inRange v =
     tenDigits (v .id .tn .0) && isNumber (v .id .number) && isStatus (v .status) && isTime (v .stamp) && isProvider (v .new .provider)
     && isProvider (v .old .provider) && isCanceller (v .canceller) && castInRange (v .cast)
 
--- new and old provider are different [V1]
-abbrev pub sidesDiffer : Version → Bool
-sidesDiffer v = not (eqb (v .new .provider) (v .old .provider))
+-- new and old provider are equal exactly in the type within one provider [V1, A14.7]
+abbrev pub providersFit : Version → Bool
+providersFit v = iff (v .within) (eqb (v .new .provider) (v .old .provider))
 
 -- a side has its due and its LRN or authorization, both exactly when it has created, and one has [V2]
 unfoldable pub newWhole : NewSide → Bool
@@ -176,13 +176,13 @@ liveConfirmed v =
     implies (v .live && eqb (v .cast .purpose) activate)
     (ltb 0 (v .cast .confirmed) || (eqb (v .cast .waiting) 0 && eqb (v .cast .failed) 0))
 
--- the version type, within one provider: no version has it
+-- in this type only the new side has created and no window mark is set [A14.8]
 abbrev pub withinFits : Version → Bool
-withinFits v = not (v .within)
+withinFits v = implies (v .within) (not (v .old .created) && not (v .window))
 
 unfoldable pub soundVersion : Version → Bool
 soundVersion v =
-    inRange v && sidesDiffer v && newWhole (v .new) && oldWhole (v .old) && oneCreated v && sidesNeeded v && causeFits (v .old)
+    inRange v && providersFit v && newWhole (v .new) && oldWhole (v .old) && oneCreated v && sidesNeeded v && causeFits (v .old)
     && cancellerFits v && setsApart (v .cast) && retriesFit (v .cast) && startFits v && waitingFits v && purposeFits v && liveFits v
     && liveConfirmed v && withinFits v
 

@@ -82,13 +82,14 @@ kindAt j = cond (ltb j 8) (j + 3) (j + 5)
 unfoldable pub gridRule : ℕ → ℕ → ℕ → ℕ
 gridRule s k w = cond (standsFor k w) (cond (statusFor k s) 0 7) 6
 
--- The finer conditions that add 7: 5 where neither the old side has created nor its window ran out; 9 and 10 where failed is not empty; 14
--- on active where failed is empty. [G3]
+-- The finer conditions that add 7: 5 where neither the old side has created nor its window ran out, unless it is within one provider; 13
+-- within one provider; 9 and 10 where failed is not empty; 14 on active where failed is empty. [G3, A14.6, A14.12]
 unfoldable pub unready : Event → Version → Bool
 unready e v =
-    cond (eqb (e .kind) kind.activate) (not (v .old .created || v .window))
+    cond (eqb (e .kind) kind.activate) (not (v .old .created || v .window || v .within))
+    (cond (eqb (e .kind) kind.windowRanOut) (v .within)
     (cond (among (e .kind) (kind.modifyActive ∷ kind.disconnect ∷ [])) (not (eqb (v .cast .failed) 0))
-    (eqb (e .kind) kind.resend && eqb (v .status) active && eqb (v .cast .failed) 0))
+    (eqb (e .kind) kind.resend && eqb (v .status) active && eqb (v .cast .failed) 0)))
 
 -- the sender lacks the standing
 abbrev pub lacksStanding : Event → Version → Bool

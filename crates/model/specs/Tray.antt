@@ -42,7 +42,7 @@ noLrn = record { 0 = 0 }
 abbrev pub toSoas : Version → ℕ → ℕ → Lrn → List ℕ → List Message
 toSoas v sort failed lrn ps = map (λ (p : ℕ). message v false sort failed p lrn) ps
 
--- the two sides: old, new; within one provider they are one
+-- the two sides: old, new; within one provider they are one [A14.3]
 abbrev pub sidesTold : Version → List ℕ
 sidesTold v = cond (v .within) (v .new .provider ∷ []) (v .old .provider ∷ v .new .provider ∷ [])
 

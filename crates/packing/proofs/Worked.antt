@@ -1,4 +1,4 @@
--- Worked records, computed: the example of docs/LAYOUTS, both ways, and three malformed ones.
+-- Worked records, computed: the two examples of docs/LAYOUTS, both ways, and malformed ones.
 -- Assumes nothing.
 use mathlib.Core.Path.{_≡_, refl}
 use mathlib.Core.Bool.{false}
@@ -25,13 +25,28 @@ create-writes : bytesOf created ≡ bytes
 unfolding bytesOf digits
 create-writes = refl
 
+-- the same within one provider, sender and other 1
+abbrev inside : Event
+inside = eventOf (1 ∷ 1 ∷ 1 ∷ 0 ∷ 0 ∷ 3035550100 ∷ 3035550000 ∷ 0 ∷ 10 ∷ 100 ∷ 1 ∷ [])
+
+abbrev insideBytes : List ℕ
+insideBytes = 1 ∷ 4 ∷ 16 ∷ 0 ∷ 180 ∷ 238 ∷ 209 ∷ 148 ∷ 45 ∷ 59 ∷ 180 ∷ 76 ∷ 0 ∷ 0 ∷ 0 ∷ 0 ∷ 0 ∷ 2 ∷ 128 ∷ 0 ∷ 0 ∷ 25 ∷ 32 ∷ 0 ∷ []
+
+inside-reads : readEvent insideBytes ≡ Record inside
+unfolding readEvent readFields wellFormed fitsBits kindFits be
+inside-reads = refl
+
+inside-writes : bytesOf inside ≡ insideBytes
+unfolding bytesOf digits
+inside-writes = refl
+
 -- the last spare bit is set
 spare-bit : readEvent (1 ∷ 8 ∷ 16 ∷ 0 ∷ 180 ∷ 238 ∷ 209 ∷ 148 ∷ 45 ∷ 59 ∷ 180 ∷ 76 ∷ 0 ∷ 0 ∷ 0 ∷ 0 ∷ 0 ∷ 2 ∷ 128 ∷ 0 ∷ 0 ∷ 25 ∷ 0 ∷ 1 ∷ [])
     ≡ Malformed
 unfolding readEvent readFields wellFormed fitsBits kindFits be
 spare-bit = refl
 
--- the first spare bit, which is kept for the version type, is set
+-- the version type with two providers
 type-bit : readEvent (1 ∷ 8 ∷ 16 ∷ 0 ∷ 180 ∷ 238 ∷ 209 ∷ 148 ∷ 45 ∷ 59 ∷ 180 ∷ 76 ∷ 0 ∷ 0 ∷ 0 ∷ 0 ∷ 0 ∷ 2 ∷ 128 ∷ 0 ∷ 0 ∷ 25 ∷ 32 ∷ 0 ∷ [])
     ≡ Malformed
 unfolding readEvent readFields wellFormed fitsBits kindFits be
@@ -42,7 +57,7 @@ fourth-digit : wellFormed (eventOf (1 ∷ 2 ∷ 1 ∷ 0 ∷ 0 ∷ 3031550100 ∷
 unfolding wellFormed fitsBits kindFits
 fourth-digit = refl
 
--- a create of a provider from itself
+-- a create of a provider from itself, without the type
 one-side : wellFormed (eventOf (1 ∷ 2 ∷ 2 ∷ 0 ∷ 0 ∷ 3035550100 ∷ 3035550000 ∷ 0 ∷ 10 ∷ 100 ∷ [])) ≡ false
 unfolding wellFormed fitsBits kindFits
 one-side = refl

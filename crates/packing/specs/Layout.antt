@@ -2,7 +2,7 @@
 -- Assumes nothing.
 use mathlib.Core.Path.{_≡_}
 use mathlib.Core.Bool.{Bool, cond, _&&_}
-use mathlib.Core.List.{List, [], _∷_}
+use mathlib.Core.List.{List, [], _∷_, _++_}
 use Prim.Native.Nat.{ℕ}
 use lib.ListN.{length, getD}
 use lib.Dec.{eqb}
@@ -14,19 +14,18 @@ use Rattle.model.specs.declared.Reading.the-variants.{Record, Malformed}
 use Rattle.model.specs.Record.{wellFormed}
 
 -- Packed most significant bit first: kind 8 bits, sender 6, other 6, authorization or result 2, cause 8, TN 34, LRN 34, version 16, time
--- 32, due 32, spare 14, of which the first is kept for the version type. [E1]
+-- 32, due 32, the version type 1, spare 13. [E1, A14.5]
 abbrev pub widths : List ℕ
 widths = 8 ∷ 6 ∷ 6 ∷ 2 ∷ 8 ∷ 34 ∷ 34 ∷ 16 ∷ 32 ∷ 32 ∷ 1 ∷ 13 ∷ []
 
--- the ten fields in the paper's order
-abbrev pub tenOf : Event → List ℕ
-tenOf e = e .kind ∷ e .sender ∷ e .other ∷ e .mark ∷ e .cause ∷ e .tn .0 ∷ e .lrn .0 ∷ e .version ∷ e .time ∷ e .due ∷ []
+-- the eleven fields in the paper's order
+abbrev pub elevenOf : Event → List ℕ
+elevenOf e =
+    e .kind ∷ e .sender ∷ e .other ∷ e .mark ∷ e .cause ∷ e .tn .0 ∷ e .lrn .0 ∷ e .version ∷ e .time ∷ e .due ∷ e .within ∷ []
 
--- and the version type and the spare bits, zero
+-- and the spare bits, zero
 abbrev pub fieldsOf : Event → List ℕ
-fieldsOf e =
-    e .kind ∷ e .sender ∷ e .other ∷ e .mark ∷ e .cause ∷ e .tn .0 ∷ e .lrn .0 ∷ e .version ∷ e .time ∷ e .due ∷ e .within
-    ∷ 0 ∷ []
+fieldsOf e = elevenOf e ++ (0 ∷ [])
 
 -- the event with these fields
 abbrev pub eventOf : List ℕ → Event

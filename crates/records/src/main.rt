@@ -1,4 +1,5 @@
 // Reads, writes and refuses the records of tests/record_vectors.py, a line for each: what it prints is held to that encoder's own answers.
+use fields::FIELDS;
 use libc::STDIN_FILENO;
 use libc::STDOUT_FILENO;
 use model::Event;
@@ -31,9 +32,9 @@ fn print_bytes(s: &[u8]) {
     }
 }
 
-fn print_numbers(s: &[u64; 10]) {
+fn print_numbers(s: &[u64; FIELDS]) {
     let mut i = 0;
-    while i < 10 {
+    while i < FIELDS {
         print_number(s[i]);
         i += 1;
     }
@@ -50,6 +51,7 @@ fn print_event(e: Event) {
     print_number(e.version as u64);
     print_number(e.time as u64);
     print_number(e.due as u64);
+    print_number(e.within as u64);
 }
 
 // What the bytes read as, and what writing the fields back says and leaves.
@@ -89,7 +91,7 @@ fn event_in(frame: &[u8; 96]) -> Event {
         version: (field(frame, 64) % 65536) as u16,
         time: (field(frame, 72) % 4294967296) as u32,
         due: (field(frame, 80) % 4294967296) as u32,
-        within: 0,
+        within: (field(frame, 88) % 256) as u8,
     }
 }
 
@@ -113,6 +115,7 @@ fn number_case(frame: &[u8; 96], out: &mut [u8]) {
         field(frame, 64),
         field(frame, 72),
         field(frame, 80),
+        field(frame, 88),
         out,
     );
     print_number(said as u64);
@@ -123,7 +126,7 @@ fn number_case(frame: &[u8; 96], out: &mut [u8]) {
 }
 
 fn read_back(s: &[u8]) {
-    let mut fields = [0u64; 10];
+    let mut fields = [0u64; FIELDS];
     print_number(fields::read(s, &mut fields) as u64);
     print_numbers(&fields);
 }

@@ -1,4 +1,4 @@
--- The example of docs/LAYOUTS.md: a sound version, and its row. Assumes nothing.
+-- The two examples of docs/LAYOUTS.md: a sound version, and its row, each. Assumes nothing.
 use mathlib.Core.Path.{_≡_, refl}
 use mathlib.Core.Bool.{true, false}
 use mathlib.Core.List.{List, _∷_}
@@ -36,15 +36,35 @@ bytes =
     ∷ 0x00 ∷ 0x00 ∷ 0x00 ∷ 0x64 ∷ 0x00 ∷ 0x00 ∷ 0x00 ∷ 0x64 ∷ 0x00 ∷ 0x00 ∷ 0x00 ∷ 0x68 ∷ 0x00 ∷ 0x00 ∷ 0x00 ∷ 0x00
     ∷ 0x00 ∷ 0x00 ∷ 0x00 ∷ 0x00 ∷ 0x00 ∷ 0x00 ∷ 0x00 ∷ 0x0e ∷ replicate 40 0
 
-packed : pack example ≡ bytes
-unfolding example bytes pack wordsOf bytesOf digits
-packed = refl
+-- within one provider: TN 3035550100, number 1, pending, created by provider 1, LRN 3035550000, due 100, stamp 10
+inside : Version
+inside = record {
+  id = record { tn = record { 0 = 3035550100 }; number = 1 };
+  status = 0;
+  stamp = 10;
+  live = false;
+  new = record { provider = 1; created = true; lrn = record { 0 = 3035550000 }; due = 100 };
+  old = record { provider = 1; created = false; authorization = 0; cause = 0; due = 0 };
+  canceller = 0;
+  window = false;
+  within = true;
+  cast = record { purpose = 0; start = 0; confirmed = 0; waiting = 0; failed = 0; retries = noRetries };
+}
 
-unpacked : unpack bytes ≡ example
-unfolding example bytes unpack versionOf wordsIn be
-unpacked = refl
+insideBytes : List ℕ
+insideBytes =
+    0x2d ∷ 0x3b ∷ 0xb4 ∷ 0x65 ∷ 0x00 ∷ 0x00 ∷ 0x41 ∷ 0x20 ∷ 0x2d ∷ 0x3b ∷ 0xb4 ∷ 0x4c ∷ 0x01 ∷ 0x04 ∷ 0x00 ∷ 0x00
+    ∷ 0x00 ∷ 0x00 ∷ 0x00 ∷ 0x64 ∷ 0x00 ∷ 0x00 ∷ 0x00 ∷ 0x00 ∷ 0x00 ∷ 0x00 ∷ 0x00 ∷ 0x0a ∷ replicate 52 0
 
-is-sound : soundVersion example ≡ true
-unfolding example soundVersion inRange castInRange retriesInRange newWhole oldWhole sidesNeeded causeFits setsApart apart
+packed : (pack example ≡ bytes) × (pack inside ≡ insideBytes)
+unfolding example bytes inside insideBytes pack wordsOf bytesOf digits
+packed = (refl, refl)
+
+unpacked : (unpack bytes ≡ example) × (unpack insideBytes ≡ inside)
+unfolding example bytes inside insideBytes unpack versionOf wordsIn be
+unpacked = (refl, refl)
+
+are-sound : (soundVersion example ≡ true) × (soundVersion inside ≡ true)
+unfolding example inside soundVersion inRange castInRange retriesInRange newWhole oldWhole sidesNeeded causeFits setsApart apart
     retriesFit every used octal member
-is-sound = refl
+are-sound = (refl, refl)

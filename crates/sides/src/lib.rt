@@ -202,7 +202,7 @@ pub fn fresh(e: Event, number: u16) -> Version
         old,
         canceller: canceller::NOBODY,
         window: false,
-        within: false,
+        within: e.within == 1,
         cast: Broadcast {
             purpose: purpose::NONE,
             start: 0,

@@ -9,7 +9,7 @@ use Rattle.model.specs.declared.Version.{Version}
 use Rattle.model.specs.Numbers.{tenDigits, isProvider, isSet, isTime, isNumber}
 use Rattle.model.proofs.Lists.{conj, conj-at, conj-all}
 use Rattle.model.specs.Basics.{none, with}
-use Rattle.model.specs.Sound.{retriesInRange, castInRange, inRange, sidesDiffer, newWhole, oldWhole, oneCreated, sidesNeeded, causeFits}
+use Rattle.model.specs.Sound.{retriesInRange, castInRange, inRange, providersFit, newWhole, oldWhole, oneCreated, sidesNeeded, causeFits}
 use Rattle.model.specs.Sound.{isStatus}
 use Rattle.model.specs.Sound.{cancellerFits, setsApart, retriesFit, startFits, waitingFits, purposeFits, liveFits, liveConfirmed}
 use Rattle.model.specs.Sound.{withinFits, soundVersion}
@@ -32,7 +32,7 @@ module _ (v : Version) where
       ∷ isSet (v .cast .failed) ∷ retriesInRange (v .cast .retries) ∷ []
 
   abbrev clauses : List Bool
-  clauses = inRange v ∷ sidesDiffer v ∷ newWhole (v .new) ∷ oldWhole (v .old) ∷ oneCreated v ∷ sidesNeeded v ∷ causeFits (v .old)
+  clauses = inRange v ∷ providersFit v ∷ newWhole (v .new) ∷ oldWhole (v .old) ∷ oneCreated v ∷ sidesNeeded v ∷ causeFits (v .old)
       ∷ cancellerFits v ∷ setsApart (v .cast) ∷ retriesFit (v .cast) ∷ startFits v ∷ waitingFits v ∷ purposeFits v
       ∷ liveFits v ∷ liveConfirmed v ∷ withinFits v ∷ []
 
@@ -44,7 +44,7 @@ module _ (v : Version) where
   marks = oneCreated v ∷ sidesNeeded v ∷ purposeFits v ∷ liveFits v ∷ []
 
   abbrev sides : List Bool
-  sides = sidesDiffer v ∷ newWhole (v .new) ∷ oldWhole (v .old) ∷ causeFits (v .old) ∷ cancellerFits v ∷ withinFits v ∷ []
+  sides = providersFit v ∷ newWhole (v .new) ∷ oldWhole (v .old) ∷ causeFits (v .old) ∷ cancellerFits v ∷ withinFits v ∷ []
 
   abbrev shape : List Bool
   shape = outlineFits v ∷ marksFit v ∷ conj sides ∷ []

@@ -5,7 +5,7 @@ use mathlib.Core.Bool.{Bool, _&&_}
 use lib.Dec.{ltb}
 use Rattle.model.specs.declared.Version.{Version}
 use Rattle.model.specs.Numbers.{tenDigits, isProvider, isTime, isNumber}
-use Rattle.model.specs.Sound.{sidesDiffer, newWhole, oldWhole, causeFits, cancellerFits, startFits, waitingFits, liveConfirmed, isStatus}
+use Rattle.model.specs.Sound.{providersFit, newWhole, oldWhole, causeFits, cancellerFits, startFits, waitingFits, liveConfirmed, isStatus}
 use Rattle.model.specs.Sound.{isPurpose, isCanceller, withinFits}
 use Rattle.sets.specs.Order.{setsFit, retriesSound}
 use Rattle.sound.specs.Marks.{marksFit}
@@ -20,7 +20,7 @@ outlineFits v =
 -- all but the broadcast
 unfoldable pub shapeFits : Version → Bool
 shapeFits v =
-    outlineFits v && marksFit v && (sidesDiffer v && newWhole (v .new) && oldWhole (v .old) && causeFits (v .old) && cancellerFits v
+    outlineFits v && marksFit v && (providersFit v && newWhole (v .new) && oldWhole (v .old) && causeFits (v .old) && cancellerFits v
     && withinFits v)
 
 -- the times, and who waits [V1, V7]

@@ -10,12 +10,12 @@ use model::mark;
 use model::status;
 ghost use mathlib.Core.Path.{_≡_};
 ghost use mathlib.Core.Bool.{_&&_};
-ghost use Rattle.model.specs.Sound.{sidesDiffer, newWhole, oldWhole, causeFits, cancellerFits, withinFits};
+ghost use Rattle.model.specs.Sound.{providersFit, newWhole, oldWhole, causeFits, cancellerFits, withinFits};
 
-pub fn sides_differ(v: Version) -> bool
-    ensures { λ r. ⌜ r ≡ sidesDiffer v ⌝ }
+pub fn providers_fit(v: Version) -> bool
+    ensures { λ r. ⌜ r ≡ providersFit v ⌝ }
 {
-    v.new.provider != v.old.provider
+    v.within == (v.new.provider == v.old.provider)
 }
 
 pub fn new_whole(s: NewSide) -> bool
@@ -46,16 +46,16 @@ pub fn canceller_fits(v: Version) -> bool
     (canceller::NOBODY < v.canceller) == (v.status == status::CANCEL_PENDING)
 }
 
-// No version is within one provider.
+// Within one provider only the new side has created, and no window mark is set.
 pub fn within_fits(v: Version) -> bool
     ensures { λ r. ⌜ r ≡ withinFits v ⌝ }
 {
-    !v.within
+    !v.within | (!v.old.created & !v.window)
 }
 
 // All of them.
 pub fn sides_fit(v: Version) -> bool
-    ensures { λ r. ⌜ r ≡ (sidesDiffer v && newWhole (v .new) && oldWhole (v .old) && causeFits (v .old) && cancellerFits v
+    ensures { λ r. ⌜ r ≡ (providersFit v && newWhole (v .new) && oldWhole (v .old) && causeFits (v .old) && cancellerFits v
         && withinFits v) ⌝ }
 {
     let new = v.new;
@@ -66,5 +66,5 @@ pub fn sides_fit(v: Version) -> bool
     if !old_whole(old) {
         return false;
     }
-    sides_differ(v) & cause_fits(old) & canceller_fits(v) & within_fits(v)
+    providers_fit(v) & cause_fits(old) & canceller_fits(v) & within_fits(v)
 }

@@ -14,7 +14,7 @@ use Rattle.model.proofs.Lists.{and-l}
 use Rattle.model.specs.declared.Broadcast.{Broadcast}
 use Rattle.model.specs.declared.Version.{Version}
 use Rattle.model.specs.Numbers.{isSet}
-use Rattle.model.specs.Sound.{retriesInRange, castInRange, inRange, withinFits, soundVersion, live, sends, worked}
+use Rattle.model.specs.Sound.{retriesInRange, castInRange, inRange, soundVersion, live, sends, worked}
 use Rattle.model.specs.Sound.{mostRows}
 use Rattle.words.specs.Size.{ROW}
 use Rattle.row.specs.Layout.{keyOf, spareless}
@@ -50,15 +50,9 @@ cast-ranges c = go (leb (c .purpose) 3) (ltb (c .start) (2 ^ 32)) (isSet (c .con
 
 -- the clauses by itself are those of a sound version
 pub alone-sound : (v : Version)
-    → (allHold (typeClauses v) && (allHold (rangeClauses v) && (allHold (sideClauses v) && allHold (castClauses v)))) ≡ soundVersion v
+    → (allHold (rangeClauses v) && (allHold (sideClauses v) && (allHold (castClauses v) && allHold (typeClauses v)))) ≡ soundVersion v
 unfolding soundVersion inRange
-alone-sound v =
-    last (withinFits v) (allHold (rangeClauses v) && (allHold (sideClauses v) && allHold (castClauses v)))
-    ∙ rw (cast-ranges (v .cast)) (simp (and-assoc, and-true))
-  where
-    last : (a x : Bool) → (a && true && x) ≡ (x && a)
-    last true x = sym (and-true x)
-    last false x = sym (and-false x)
+alone-sound v = rw (cast-ranges (v .cast)) (simp (and-assoc, and-true))
 
 -- ---- what the rows before have, as the scan carries it
 
@@ -211,17 +205,17 @@ module _ (t : List ℕ) where
       rw f
       (none-broken (formClauses t i (wordsAt t i)) _ refl
       ∙ ap₂ (λ (x y : Bool). x && y) form
-      (none-broken (typeClauses v) _ refl
-      ∙ ap (λ (x : Bool). allHold (typeClauses v) && x)
       (none-broken (rangeClauses v) _ refl
       ∙ ap (λ (x : Bool). allHold (rangeClauses v) && x)
       (none-broken (sideClauses v) _ refl
       ∙ ap (λ (x : Bool). allHold (sideClauses v) && x)
       (none-broken (castClauses v) _ refl
       ∙ ap (λ (x : Bool). allHold (castClauses v) && x)
-      (none-broken (besideClauses t i v) _ refl ∙ and-true (allHold (besideClauses t i v))))))
-      ∙ group (allHold (typeClauses v)) (allHold (rangeClauses v)) (allHold (sideClauses v)) (allHold (castClauses v))
-      (allHold (besideClauses t i v))
+      (none-broken (besideClauses t i v) _ refl
+      ∙ ap (λ (x : Bool). allHold (besideClauses t i v) && x)
+      (none-broken (typeClauses v) _ refl ∙ and-true (allHold (typeClauses v))))))
+      ∙ group (allHold (rangeClauses v)) (allHold (sideClauses v)) (allHold (castClauses v)) (allHold (besideClauses t i v))
+      (allHold (typeClauses v))
       ∙ ap (λ (x : Bool). x && allHold (besideClauses t i v)) (alone-sound v)
       ∙ go (soundVersion v) refl))
     where
@@ -231,8 +225,9 @@ module _ (t : List ℕ) where
       form : allHold (formClauses t i (wordsAt t i)) ≡ spareless (wordsAt t i)
       form = rw (c .used) (and-true (spareless (wordsAt t i)))
 
-      group : (a b c d e : Bool) → (a && (b && (c && (d && e)))) ≡ ((a && (b && (c && d))) && e)
-      group true true true d e = refl
+      group : (a b c d e : Bool) → (a && (b && (c && (d && e)))) ≡ ((a && (b && (c && e))) && d)
+      group true true true true e = sym (and-true e)
+      group true true true false e = sym (and-false e)
       group true true false d e = refl
       group true false c d e = refl
       group false b c d e = refl

@@ -11,7 +11,7 @@ use Rattle.faults.specs.Faults.{Clause, alone, beside, foundAt, firstBroken, be
 use Rattle.model.specs.declared.Broadcast.{Broadcast}
 use Rattle.model.specs.declared.Version.{Version}
 use Rattle.model.specs.Numbers.{tenDigits, isProvider, isSet, isTime, isNumber}
-use Rattle.model.specs.Sound.{retriesInRange, sidesDiffer, newWhole, oldWhole, oneCreated, sidesNeeded, causeFits, cancellerFits, isStatus}
+use Rattle.model.specs.Sound.{retriesInRange, providersFit, newWhole, oldWhole, oneCreated, sidesNeeded, causeFits, cancellerFits, isStatus}
 use Rattle.model.specs.Sound.{isPurpose, isCanceller}
 use Rattle.model.specs.Sound.{setsApart, retriesFit, startFits, waitingFits, purposeFits, liveFits, liveConfirmed, live, sends, worked}
 use Rattle.model.specs.Sound.{withinFits, mostRows}
@@ -22,10 +22,6 @@ use Rattle.row.specs.Layout.{keyOf, versionOf, spareless}
 use Rattle.rows.specs.Place.{rowAt}
 
 -- ---- a version by itself
-
--- the version type, whose bit is kept [T3]
-abbrev pub typeClauses : Version → List Clause
-typeClauses v = alone 4 (withinFits v) ∷ []
 
 -- every value in its range [V1]
 abbrev pub setsInRange : Broadcast → Bool
@@ -48,10 +44,10 @@ rangeClauses v =
     ∷ alone 13 (restInRange (v .cast))
     ∷ []
 
--- what the two sides have [V1 to V5]
+-- what the two sides have [V1 to V5, A14.7]
 abbrev pub sideClauses : Version → List Clause
 sideClauses v =
-    alone 14 (sidesDiffer v)
+    alone 14 (providersFit v)
     ∷ alone 15 (newWhole (v .new))
     ∷ alone 16 (oldWhole (v .old))
     ∷ alone 17 (oneCreated v)
@@ -71,6 +67,10 @@ castClauses v =
     ∷ alone 26 (liveFits v)
     ∷ alone 27 (liveConfirmed v)
     ∷ []
+
+-- what the version type asks [A14.8]
+abbrev pub typeClauses : Version → List Clause
+typeClauses v = alone 37 (withinFits v) ∷ []
 
 -- ---- a row among those before it
 
@@ -121,10 +121,11 @@ unfoldable pub rowFound : List ℕ → ℕ → Found
 rowFound t i =
     cond (freeAt t i) (foundAt 0 0)
     (firstBroken (formClauses t i (wordsAt t i))
-    (firstBroken (typeClauses (versionAt t i))
     (firstBroken (rangeClauses (versionAt t i))
     (firstBroken (sideClauses (versionAt t i))
-    (firstBroken (castClauses (versionAt t i)) (firstBroken (besideClauses t i (versionAt t i)) (foundAt 0 0)))))))
+    (firstBroken (castClauses (versionAt t i))
+    (firstBroken (besideClauses t i (versionAt t i))
+    (firstBroken (typeClauses (versionAt t i)) (foundAt 0 0)))))))
 
 -- at most 4,096 whole rows [T1], and then row after row
 unfoldable pub tableFault : List ℕ → Fault

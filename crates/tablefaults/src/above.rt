@@ -8,7 +8,7 @@ ghost use mathlib.Core.List.{[], _∷_};
 ghost use lib.Dec.{eqb};
 ghost use Prim.Native.Nat.{ℕ, _+_, _*_, _≤_, _<_};
 ghost use lib.ListN.{length};
-ghost use Rattle.faults.specs.Faults.{firstBroken, before, beside, foundAt};
+ghost use Rattle.faults.specs.Faults.{firstBroken, before, beside};
 ghost use Rattle.words.specs.Size.{ROW};
 ghost use Rattle.row.specs.Layout.{keyOf};
 ghost use Rattle.tablefaults.specs.Clauses.{freeAt, formClauses, besideClauses, sinks, mark, sharer};
@@ -94,12 +94,11 @@ fn once(n: u64, other: u64, rest: Found) -> Found
 }
 
 // Clauses 28 to 31, of v in row i.
-pub fn shared(t: &[u8], i: usize, v: Version) -> Found
+pub fn shared(t: &[u8], i: usize, v: Version, rest: Found) -> Found
     requires { ⌜ (i * ROW ≤ length (now t)) × (v .id .tn .0 < 17179869184) ⌝ }
-    ensures { λ r. ⌜ r ≡ firstBroken (besideClauses (now (t .entry)) i v) (foundAt 0 0) ⌝ }
+    ensures { λ r. ⌜ r ≡ firstBroken (besideClauses (now (t .entry)) i v) rest ⌝ }
 {
-    let f = faults::fine();
-    let f = once(31, sharer(31, t, i, v), f);
+    let f = once(31, sharer(31, t, i, v), rest);
     let f = once(30, sharer(30, t, i, v), f);
     let f = once(29, sharer(29, t, i, v), f);
     faults::unless(!sinks(t, i, v), 28, i as u64, f)

@@ -25,13 +25,6 @@ fn rest_in_range(c: Broadcast) -> bool
     (c.purpose <= purpose::LAST) & ((c.start as u64) < 4294967296) & sets::retries_in_range(retries)
 }
 
-// Clause 4, of the version type.
-pub fn typed(v: Version, rest: Found) -> Found
-    ensures { λ r. ⌜ r ≡ firstBroken (typeClauses v) rest ⌝ }
-{
-    faults::unless(sound::sides::within_fits(v), 4, 0, rest)
-}
-
 // Clauses 5 to 13.
 pub fn ranges(v: Version, rest: Found) -> Found
     ensures { λ r. ⌜ r ≡ firstBroken (rangeClauses v) rest ⌝ }
@@ -80,7 +73,7 @@ pub fn sides(v: Version, rest: Found) -> Found
     let f = faults::unless(one_created(v), 17, 0, f);
     let f = faults::unless(sound::sides::old_whole(old), 16, 0, f);
     let f = faults::unless(sound::sides::new_whole(new), 15, 0, f);
-    faults::unless(sound::sides::sides_differ(v), 14, 0, f)
+    faults::unless(sound::sides::providers_fit(v), 14, 0, f)
 }
 
 // A purpose exactly in statuses 3 to 6, activate in 4 and 5.
@@ -119,4 +112,11 @@ pub fn cast(v: Version, rest: Found) -> Found
     let f = faults::unless(sound::cast::start_fits(v), 23, 0, f);
     let f = faults::unless(sets::all_wait(cast), 22, 0, f);
     faults::unless(sets::sets_apart(cast), 21, 0, f)
+}
+
+// Clause 37.
+pub fn typed(v: Version, rest: Found) -> Found
+    ensures { λ r. ⌜ r ≡ firstBroken (typeClauses v) rest ⌝ }
+{
+    faults::unless(sound::sides::within_fits(v), 37, 0, rest)
 }

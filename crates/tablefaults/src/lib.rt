@@ -27,12 +27,12 @@ fn found(t: &[u8], i: usize) -> Found
         return faults::fine();
     }
     let v = row::version_of(w);
-    let shared = above::shared(t, i, v);
+    let typed = alone::typed(v, faults::fine());
+    let shared = above::shared(t, i, v, typed);
     let cast = alone::cast(v, shared);
     let sides = alone::sides(v, cast);
     let ranges = alone::ranges(v, sides);
-    let typed = alone::typed(v, ranges);
-    above::form(t, i, w, typed)
+    above::form(t, i, w, ranges)
 }
 
 // The first row that breaks a clause.

@@ -2,7 +2,7 @@
 use native.Mathlib.Omega.{arith}
 use lib.ListN.{length-set}
 use denote.Ref.{now}
-use Rattle.packing.specs.Layout.{tenOf}
+use Rattle.packing.specs.Layout.{elevenOf}
 use Rattle.fields.proofs.Answers.{set-all}
 use borrow.Author.Needs.{needs}
 use Rattle.fields.proofs.store.Statement.{statement}
@@ -62,13 +62,19 @@ cast-fields-8 c = omega (arith, c .struct-known8)
 slice-write-fields-10 : tie.Need-slice-write-fields-10
 slice-write-fields-10 c = simp length-set (omega arith)
 
+cast-fields-9 : tie.Need-cast-fields-9
+cast-fields-9 c = omega (arith, c .struct-known9)
+
+slice-write-fields-11 : tie.Need-slice-write-fields-11
+slice-write-fields-11 c = simp length-set (omega arith)
+
 same-length : tie.Need-same-length
 same-length c = search needs
 
 returns : tie.Need-returns
 returns c =
-    let s = c .before .before .before .before .before .before .before .before in
-    set-all (tenOf (s .args .e)) (now (s .args .fields)) (s .pre)
+    let s = c .before .before .before .before .before .before .before .before .before in
+    set-all (elevenOf (s .args .e)) (now (s .args .fields)) (s .pre)
 
 pub store-spec : {M : Type 1} → statement M
 store-spec =
@@ -92,5 +98,7 @@ store-spec =
     slice-write-fields-9
     cast-fields-8
     slice-write-fields-10
+    cast-fields-9
+    slice-write-fields-11
     same-length
     returns)

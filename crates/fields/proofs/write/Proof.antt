@@ -13,7 +13,7 @@ fits-bits-requires c κs = search needs
 narrowed-requires : tie.Need-narrowed-requires
 narrowed-requires c κs =
     let a = c .before .before .before .args in
-    narrow (event (a .kind) (a .sender) (a .other) (a .mark) (a .cause) (a .tn) (a .lrn) (a .version) (a .time) (a .due))
+    narrow (event (a .kind) (a .sender) (a .other) (a .mark) (a .cause) (a .tn) (a .lrn) (a .version) (a .time) (a .due) (a .within))
     _ (c .before .fits-bits .ensures) (c .if1 .taken)
 
 write-requires : tie.Need-write-requires
@@ -28,7 +28,7 @@ returns c = rw (sym (c .before .before .before .before .narrowed .ensures)) (c .
 returns-2 : tie.Need-returns-2
 returns-2 c =
     let a = c .before .before .before .args in
-    wide-refused (event (a .kind) (a .sender) (a .other) (a .mark) (a .cause) (a .tn) (a .lrn) (a .version) (a .time) (a .due))
+    wide-refused (event (a .kind) (a .sender) (a .other) (a .mark) (a .cause) (a .tn) (a .lrn) (a .version) (a .time) (a .due) (a .within))
     (now (a .out))
     _ (c .before .fits-bits .ensures) (c .if1 .left)
 

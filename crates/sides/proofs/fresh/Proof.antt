@@ -26,13 +26,13 @@ status-by-requires c κs = search needs
 
 returns : tie.Need-returns
 returns c = rw (
-  c .status-by .ensures,
-  c .before .old-joined .ensures,
-  c .before .before .old-absent .ensures,
-  c .before .before .before .old-in .ensures,
-  c .before .before .before .before .new-joined .ensures,
-  c .before .before .before .before .before .new-absent .ensures,
-  c .before .before .before .before .before .before .new-in .ensures,
+  c .before .status-by .ensures,
+  c .before .before .old-joined .ensures,
+  c .before .before .before .old-absent .ensures,
+  c .before .before .before .before .old-in .ensures,
+  c .before .before .before .before .before .new-joined .ensures,
+  c .before .before .before .before .before .before .new-absent .ensures,
+  c .before .before .before .before .before .before .before .new-in .ensures,
 )
 
 pub fresh-spec : {M : Type 1} → statement M

@@ -29,8 +29,15 @@ returns c =
 version-of-requires : tie.Need-version-of-requires
 version-of-requires c κs = search needs
 
+fine-requires-2 : tie.Need-fine-requires-2
+fine-requires-2 c κs = search needs
+
+typed-requires : tie.Need-typed-requires
+typed-requires c κs = search needs
+
 shared-requires : tie.Need-shared-requires
-shared-requires c κs = (omega arith, subst (λ (v : Version). v .id .tn .0 < 17179869184) (sym (c .version-of .ensures)) (tn-fits _))
+shared-requires c κs =
+    (omega arith, subst (λ (v : Version). v .id .tn .0 < 17179869184) (sym (c .before .before .version-of .ensures)) (tn-fits _))
 
 cast-requires : tie.Need-cast-requires
 cast-requires c κs = search needs
@@ -41,16 +48,14 @@ sides-requires c κs = search needs
 ranges-requires : tie.Need-ranges-requires
 ranges-requires c κs = search needs
 
-typed-requires : tie.Need-typed-requires
-typed-requires c κs = search needs
-
 form-requires : tie.Need-form-requires
 form-requires c κs = search needs
 
 returns-2 : tie.Need-returns-2
 unfolding rowFound
 returns-2 c =
-    let v = c .before .before .before .before .before .before in
+    let f = c .before .before .before .before .before in
+    let v = f .before .before in
     let b = v .before .before in
     let a = b .before .before .before .args in
     let used : freeAt (a .t .now) (a .i) ≡ false = ap isBlank (sym (b .before .words .ensures))
@@ -58,11 +63,12 @@ returns-2 c =
     rw (
       used,
       c .form .ensures,
-      c .before .typed .ensures,
-      c .before .before .ranges .ensures,
-      c .before .before .before .sides .ensures,
-      c .before .before .before .before .cast .ensures,
-      c .before .before .before .before .before .shared .ensures,
+      c .before .ranges .ensures,
+      c .before .before .sides .ensures,
+      c .before .before .before .cast .ensures,
+      c .before .before .before .before .shared .ensures,
+      f .typed .ensures,
+      f .before .fine2 .ensures,
       v .version-of .ensures,
       b .before .words .ensures,
     )
@@ -76,10 +82,11 @@ found-spec =
     fine-requires
     returns
     version-of-requires
+    fine-requires-2
+    typed-requires
     shared-requires
     cast-requires
     sides-requires
     ranges-requires
-    typed-requires
     form-requires
     returns-2)

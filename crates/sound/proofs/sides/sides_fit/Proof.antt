@@ -1,7 +1,7 @@
 -- `sides::sides_fit` meets its contract. Assumes nothing.
 use mathlib.Core.Path.{sym, _∙_}
 use borrow.Author.Tests.{not-true, not-false}
-use Rattle.model.specs.Sound.{sidesDiffer, newWhole, oldWhole, causeFits, cancellerFits, withinFits}
+use Rattle.model.specs.Sound.{providersFit, newWhole, oldWhole, causeFits, cancellerFits, withinFits}
 use Rattle.sound.proofs.Clauses.{sides-order}
 use borrow.Author.Needs.{needs}
 use Rattle.sound.proofs.sides.sides_fit.Statement.{statement}
@@ -13,7 +13,7 @@ new-whole-requires c κs = search needs
 returns : tie.Need-returns
 returns c =
     let v = c .before .before .before .before .args .v in
-    sym (sides-order (sidesDiffer v) (newWhole (v .new)) (oldWhole (v .old)) (causeFits (v .old)) (cancellerFits v) (withinFits v)
+    sym (sides-order (providersFit v) (newWhole (v .new)) (oldWhole (v .old)) (causeFits (v .old)) (cancellerFits v) (withinFits v)
     ∙ rw (sym (c .before .new-whole .ensures) ∙ not-true (c .before .new-whole .result) (c .if1 .taken)))
 
 old-whole-requires : tie.Need-old-whole-requires
@@ -22,15 +22,15 @@ old-whole-requires c κs = search needs
 returns-2 : tie.Need-returns-2
 returns-2 c =
     let v = c .before .before .before .before .before .before .args .v in
-    sym (sides-order (sidesDiffer v) (newWhole (v .new)) (oldWhole (v .old)) (causeFits (v .old)) (cancellerFits v) (withinFits v)
+    sym (sides-order (providersFit v) (newWhole (v .new)) (oldWhole (v .old)) (causeFits (v .old)) (cancellerFits v) (withinFits v)
     ∙ rw (
       sym (c .before .before .before .new-whole .ensures) ∙ not-false (c .before .before .before .new-whole .result)
           (c .before .before .if1 .left),
       sym (c .before .old-whole .ensures) ∙ not-true (c .before .old-whole .result) (c .if2 .taken),
     ))
 
-sides-differ-requires : tie.Need-sides-differ-requires
-sides-differ-requires c κs = search needs
+providers-fit-requires : tie.Need-providers-fit-requires
+providers-fit-requires c κs = search needs
 
 cause-fits-requires : tie.Need-cause-fits-requires
 cause-fits-requires c κs = search needs
@@ -46,12 +46,12 @@ returns-3 c =
     let s = c .before .before .before .before in
     let v = s .before .before .before .before .before .before .args .v in
     rw (
-      c .before .before .before .sides-differ .ensures,
+      c .before .before .before .providers-fit .ensures,
       c .before .before .cause-fits .ensures,
       c .before .canceller-fits .ensures,
       c .within-fits .ensures,
     )
-    (sym (sides-order (sidesDiffer v) (newWhole (v .new)) (oldWhole (v .old)) (causeFits (v .old)) (cancellerFits v) (withinFits v)
+    (sym (sides-order (providersFit v) (newWhole (v .new)) (oldWhole (v .old)) (causeFits (v .old)) (cancellerFits v) (withinFits v)
     ∙ rw (
       sym (s .before .before .before .new-whole .ensures) ∙ not-false (s .before .before .before .new-whole .result)
           (s .before .before .if1 .left),
@@ -66,7 +66,7 @@ sides-fit-spec =
     returns
     old-whole-requires
     returns-2
-    sides-differ-requires
+    providers-fit-requires
     cause-fits-requires
     canceller-fits-requires
     within-fits-requires

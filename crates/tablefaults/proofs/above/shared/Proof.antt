@@ -3,9 +3,6 @@ use borrow.Author.Needs.{needs}
 use Rattle.tablefaults.proofs.above.shared.Statement.{statement}
 use Rattle.tablefaults.proofs.above.shared.Tie as tie
 
-fine-requires : tie.Need-fine-requires
-fine-requires c κs = search needs
-
 sharer-requires : tie.Need-sharer-requires
 sharer-requires c κs = search needs
 
@@ -40,14 +37,12 @@ returns c = rw (
   c .before .before .before .before .before .sharer2 .ensures,
   c .before .before .before .before .before .before .once .ensures,
   c .before .before .before .before .before .before .before .sharer .ensures,
-  c .before .before .before .before .before .before .before .before .fine .ensures,
 )
 
 pub shared-spec : {M : Type 1} → statement M
 shared-spec =
     tie.close
     (tie.spec
-    fine-requires
     sharer-requires
     once-requires
     sharer-requires-2

@@ -39,8 +39,8 @@ new-whole-requires c κs = search needs
 unless-requires-6 : tie.Need-unless-requires-6
 unless-requires-6 c κs = search needs
 
-sides-differ-requires : tie.Need-sides-differ-requires
-sides-differ-requires c κs = search needs
+providers-fit-requires : tie.Need-providers-fit-requires
+providers-fit-requires c κs = search needs
 
 unless-requires-7 : tie.Need-unless-requires-7
 unless-requires-7 c κs = search needs
@@ -48,7 +48,7 @@ unless-requires-7 c κs = search needs
 returns : tie.Need-returns
 returns c = rw (
   c .unless7 .ensures,
-  c .before .sides-differ .ensures,
+  c .before .providers-fit .ensures,
   c .before .before .unless6 .ensures,
   c .before .before .before .new-whole .ensures,
   c .before .before .before .before .unless5 .ensures,
@@ -79,6 +79,6 @@ sides-spec =
     unless-requires-5
     new-whole-requires
     unless-requires-6
-    sides-differ-requires
+    providers-fit-requires
     unless-requires-7
     returns)
