@@ -254,9 +254,7 @@ void records() {
     auto events = std::make_shared<std::vector<Event>>();
     auto bytes = std::make_shared<Bytes>();
     while (events->size() < 1000) {
-        Event e = nextEvent(d, s, 60);
-        if (e.within) continue;  // it has no fields yet, see hasNoFields of tests/layouts.hpp
-        events->push_back(e);
+        events->push_back(nextEvent(d, s, 60));
         Bytes record = packEvent(events->back());
         bytes->insert(bytes->end(), record.begin(), record.end());
     }
@@ -270,7 +268,8 @@ void records() {
         return [=] {
             uint8_t out[RECORD];
             for (const Event &e : *events)
-                sink = write(e.kind, e.sender, e.other, e.mark, e.cause, e.tn.digits, e.lrn.digits, e.version, e.time, e.due, out, RECORD);
+                sink = write(e.kind, e.sender, e.other, e.mark, e.cause, e.tn.digits, e.lrn.digits, e.version, e.time, e.due, e.within, out,
+                             RECORD);
         };
     };
     addRow("record read", {plan(100, [] {}, {readAll(lupinenblatt_record_read), readAll(hand_record_read)})});
@@ -284,6 +283,7 @@ struct Wanted { const char *name; uint64_t kind, outcome; bool fresh, within = f
 // Kind 0: any kind. Fresh: a create with a new row. Within: a create within one provider.
 const std::vector<Wanted> STEPS = {
     {"0 done: 1 new side creates, rows move", 1, DONE, true},
+    {"0 done: 1 within one provider, rows move", 1, DONE, true, true},
     {"0 done: 2 old side creates, rows move", 2, DONE, true},
     {"0 done: 1 new side concurs", 1, DONE, false},
     {"0 done: 2 old side concurs", 2, DONE, false},
@@ -380,7 +380,6 @@ void steps(const std::vector<Situation> &situations) {
     Dice d(7);
     std::vector<std::vector<Measured>> done, refused;
     for (const Wanted &w : STEPS) (w.outcome == DONE ? done : refused).push_back(stepRow(d, w, situations));
-    if (WITHIN_PROVIDER) done.push_back(stepRow(d, {"0 done: 1 within one provider, rows move", 1, DONE, true, true}, situations));
     lines.push_back([=] {
         meanRow("step, all done, geometric mean", done);
         meanRow("step, all refused, geometric mean", refused);

@@ -3,8 +3,7 @@
  *
  * The soundness of the table is one pass with one load a word and, but for retries, no branch that goes either way in sound tables; a
  * number's rows are found by bisection; rows and messages are written word by word; rows move by memmove. The rows of a line in a
- * split pair are found by two bisections, and the pass is followed by a merge for each pair. Without WITHIN_PROVIDER (request A14, see
- * tests/sizes.h) the type of a row or record is the constant 0.
+ * split pair are found by two bisections, and the pass is followed by a merge for each pair.
  */
 #include "hand.h"
 #include "sizes.h"
@@ -25,7 +24,7 @@ enum { SELECTED, NOT_PRESENT, NO_LOCAL, FILTER_ONLY, FILTERS_BOTH };
 _Static_assert((int)PURGE == KINDS && CANCELED + 1 == STATUSES && (int)WINDOW_NOTICE == SORTS && DISCONNECT + 1 == PURPOSES, "numbers");
 _Static_assert(OLD_SIDE + 1 == CANCELLERS && NO + 1 == MARKS && PROVIDERS == 63 && MOST_RETRIES == 7, "numbers");
 _Static_assert(FILTERS_BOTH + 1 == CLASSES && (int)CLASS_PLACES == (int)PROVIDERS, "numbers");
-_Static_assert(ROW == 80 && MESSAGE == 24 && RECORD == 24 && FIELDS == 10 && STATUS_VALUES == 16, "layouts");
+_Static_assert(ROW == 80 && MESSAGE == 24 && RECORD == 24 && FIELDS == 11 && STATUS_VALUES == 16, "layouts");
 _Static_assert(CODES_AT == 8 && FILTERS_AT == CODES_AT + 4 * CODES && FILTERS % 8 == 0 && SPLITS_AT == FILTERS_AT + 4 * FILTERS
                && BOOKS == SPLITS_AT + 8 * SPLITS, "layouts");
 
@@ -80,8 +79,8 @@ static inline bool all_zero(const uint8_t *at, size_t length)
 }
 
 /* Bits of a row's first word, and its type: 1 within one provider. */
-enum { OLD_CREATED = 1 << 7, WINDOW_RUN_OUT = 1 << 6, WITHIN = WITHIN_PROVIDER << 5, SPARE = 63 & ~WITHIN };
-static inline uint64_t within_of(uint64_t w0) { return w0 >> 5 & WITHIN_PROVIDER; }
+enum { OLD_CREATED = 1 << 7, WINDOW_RUN_OUT = 1 << 6, WITHIN = 1 << 5, SPARE = 31 };
+static inline uint64_t within_of(uint64_t w0) { return w0 >> 5 & 1; }
 
 /*
  * Ten digits, the first and the fourth 2 to 9: 1 where they are not. The fourth digit is 2 or more exactly where n / 10,000,000 is at least
@@ -462,30 +461,31 @@ static bool read_event(const uint8_t *at, event_t *e)
     e->version = b >> 14 & 0xffff;
     e->time = (b & 0x3fff) << 18 | c >> 46;
     e->due = c >> 14 & 0xffffffff;
-    e->within = c >> 13 & WITHIN_PROVIDER;
-    return (c & (0x3fff >> WITHIN_PROVIDER)) == 0 && well_formed(e);
+    e->within = c >> 13 & 1;
+    return (c & 0x1fff) == 0 && well_formed(e);
 }
 
 uint8_t hand_record_read(const uint8_t *bytes, size_t length, uint64_t *fields, size_t places)
 {
     event_t e;
     if (length != RECORD || places != FIELDS || !read_event(bytes, &e)) return 2;
-    const uint64_t all[FIELDS] = {e.kind, e.sender, e.other, e.mark, e.cause, e.tn, e.lrn, e.version, e.time, e.due};
+    const uint64_t all[FIELDS] = {e.kind, e.sender, e.other, e.mark, e.cause, e.tn, e.lrn, e.version, e.time, e.due, e.within};
     memcpy(fields, all, sizeof all);
     return 0;
 }
 
 uint8_t hand_record_write(uint64_t kind, uint64_t sender, uint64_t other, uint64_t mark, uint64_t cause, uint64_t tn, uint64_t lrn,
-                          uint64_t version, uint64_t time, uint64_t due, uint8_t *out, size_t length)
+                          uint64_t version, uint64_t time, uint64_t due, uint64_t within, uint8_t *out, size_t length)
 {
     if (length != RECORD || kind > KINDS || sender > PROVIDERS || other > PROVIDERS || mark > NO || cause > LAST_CAUSE
-        || version > LAST_VERSION || time > 0xffffffff || due > 0xffffffff)
+        || version > LAST_VERSION || time > 0xffffffff || due > 0xffffffff || within > 1)
         return 2;
-    event_t e = {tn, lrn, version, time, due, (unsigned)kind, (unsigned)sender, (unsigned)other, (unsigned)mark, (unsigned)cause, 0};
+    event_t e = {tn, lrn, version, time, due, (unsigned)kind, (unsigned)sender, (unsigned)other, (unsigned)mark, (unsigned)cause,
+                 (unsigned)within};
     if (!well_formed(&e)) return 2;
     store64(out, kind << 56 | sender << 50 | other << 44 | mark << 42 | cause << 34 | tn);
     store64(out + 8, lrn << 30 | version << 14 | time >> 18);
-    store64(out + 16, time << 46 | due << 14);
+    store64(out + 16, time << 46 | due << 14 | within << 13);
     return 0;
 }
 

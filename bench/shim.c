@@ -46,7 +46,7 @@ uint8_t lupinenblatt_record_read(const uint8_t *bytes, size_t length, uint64_t *
 }
 
 uint8_t lupinenblatt_record_write(uint64_t kind, uint64_t sender, uint64_t other, uint64_t mark, uint64_t cause, uint64_t tn, uint64_t lrn,
-                                  uint64_t version, uint64_t time, uint64_t due, uint8_t *out, size_t length)
+                                  uint64_t version, uint64_t time, uint64_t due, uint64_t within, uint8_t *out, size_t length)
 {
-    return hand_record_write(kind, sender, other, mark, cause, tn, lrn, version, time, due, out, length);
+    return hand_record_write(kind, sender, other, mark, cause, tn, lrn, version, time, due, within, out, length);
 }

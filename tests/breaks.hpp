@@ -64,7 +64,7 @@ inline void breakNeeded(Dice &d, Version &v) {
 
 // Number 14: a provider twice without the type, two with it, the type there or gone.
 inline void breakSame(Dice &d, Version &v) {
-    if (OF_TYPE != 0 && d.chance(50)) v.within = !v.within;
+    if (d.chance(50)) v.within = !v.within;
     else if (v.within) v.oldProvider = v.oldProvider % PROVIDERS + 1;
     else v.newProvider = v.oldProvider = d.chance(50) ? v.newProvider : v.oldProvider;
 }
@@ -80,7 +80,7 @@ inline void breakWithin(Dice &d, Version &v) {
 
 // Now and then number 37 in a row that breaks one from 28 on: of these 37 is told last.
 inline void breakBesides(Dice &d, Version &v) {
-    if (OF_TYPE != 0 && d.chance(10)) breakWithin(d, v);
+    if (d.chance(10)) breakWithin(d, v);
 }
 
 // Number 27, and nothing else that had not been broken before.
@@ -268,7 +268,7 @@ inline Bytes brokenTable(Dice &d, Table t, const Books &b) {
     size_t more = d.chance(2) ? MOST_ROWS : d.chance(8) ? d.between(250, 300) : t.used.size() + d.between(2, 9);
     if (t.used.size() < 2 || d.chance(25)) addNumbers(d, t, b, more);
     bool linesAlone = !b.splits.empty() && d.chance(18) && breakLines(d, t, b);
-    std::vector<Break> breaks = anyBreaks(d, t.used.size(), 3, 31 + WITHIN_PROVIDER), bits;  // of a row 37 is next to 31
+    std::vector<Break> breaks = anyBreaks(d, t.used.size(), 3, 32), bits;  // 32 stands for 37, which of a row is next to 31
     if (linesAlone) breaks.clear();
     for (const Break &k : breaks) {
         if (k.number <= 4 || k.number == 13) bits.push_back(k);

@@ -38,7 +38,8 @@ enum OnLine : size_t { RETIRED, CONCURRED, NUMBERED, BUSY_BY_OTHER, EARLY_BY_OTH
 // What happens to versions within one provider and to the creates of them, as far as it is counted apart.
 enum Within : size_t { CREATED, CREATED_ON_LINE, NOT_OF_CURRENT, BESIDE_WORKED, BESIDE_SENDING, TOO_EARLY, NO_WINDOW, NO_WINDOW_BY_PROVIDER,
                        NO_OLD_SIDE, CANCELED_AT_ONCE, ACTIVATED, CLOSED_ONCE, CLOSED_FAILED_ONCE, OTHER_CREATES, RETIRES, IS_RETIRED,
-                       ACKNOWLEDGED, RESOLVED, IN_ANOTHER_KIND, OF_TWO, OF_ONE_WITHOUT, WITHIN };
+                       ACKNOWLEDGED, RESOLVED, IN_ANOTHER_KIND, OF_TWO, OF_ONE_WITHOUT, RECORD_READ, RECORD_WRITTEN, RECORD_REFUSED,
+                       RECORD_TOO_WIDE, WITHIN };
 enum WithinFault : size_t { TWO_WITH_TYPE, ONE_WITHOUT_TYPE, OLD_SIDE_WITH_TYPE, WINDOW_WITH_TYPE, WITHIN_FAULTS };
 
 struct Tally {
@@ -51,6 +52,7 @@ struct Tally {
     uint64_t broadcast[CLASSES] = {}, resent[CLASSES] = {};  // by class: providers at kinds 5, 9, 10; failed systems at a resend
     uint64_t splitLines = 0, underOther[KINDS + 1][2] = {};  // events on lines in split pairs; under another name by kind: done, refused
     uint64_t onLine[ON_LINE] = {};
+    uint64_t creates[2][2] = {};  // well-formed creates, of two providers and within one: refused, done
     uint64_t within[WITHIN] = {}, withinFaults[WITHIN_FAULTS] = {};
     uint64_t seed = 0, sequence = 0;
 } tally;
@@ -204,7 +206,7 @@ struct TypesBefore {
 
 TypesBefore typesBefore(const std::optional<Table> &table, const std::optional<Books> &books, const std::optional<Event> &e) {
     TypesBefore t;
-    if (!WITHIN_PROVIDER || !table || !books || !sound(*books) || !e) return t;
+    if (!table || !books || !sound(*books) || !e) return t;
     const Version *v = e->kind <= OLD_CREATES ? workedVersion(*table, *books, e->tn) : findVersion(*table, *books, e->tn, e->version);
     if (v) t.meant = *v;
     for (const Version *o : versionsOf(*table, *books, e->tn))
@@ -214,6 +216,7 @@ TypesBefore typesBefore(const std::optional<Table> &table, const std::optional<B
 
 // A create of the type, and one that a worked version of the type refuses.
 void countCreateWithin(const TypesBefore &t, const std::optional<Books> &books, const Event &e, uint64_t outcome) {
+    tally.creates[e.within][outcome == DONE]++;
     if (!e.within) {
         tally.within[OTHER_CREATES] += outcome == UNFIT && t.meant->within;
         return;
@@ -249,7 +252,7 @@ void countClosing(const TypesBefore &t, const Event &e, const Table &after, cons
 
 void countWithin(const TypesBefore &t, const std::optional<Books> &books, const std::optional<Event> &e, const Result &r,
                  const std::optional<Table> &after) {
-    if (!WITHIN_PROVIDER || !e || r.outcome == UNSOUND) return;
+    if (!e || r.outcome == UNSOUND) return;
     bool creates = e->kind == NEW_CREATES || e->kind == OLD_CREATES, malformed = r.outcome == MALFORMED;
     tally.within[IN_ANOTHER_KIND] += malformed && e->within && e->kind != NEW_CREATES;
     tally.within[OF_TWO] += malformed && e->within && e->kind == NEW_CREATES && e->sender != e->other;
@@ -525,7 +528,7 @@ void printFault(const char *who, const Fault &f) {
 
 // Numbers 14 and 37 by what the row has.
 void countWithinFault(const Bytes &table, const Fault &f) {
-    if (!WITHIN_PROVIDER || (f.clause != 14 && f.clause != 37)) return;
+    if (f.clause != 14 && f.clause != 37) return;
     Row r = readRow(table.data() + (f.place - 1) * ROW);
     if (f.clause == 14) tally.withinFaults[r.within ? TWO_WITH_TYPE : ONE_WITHOUT_TYPE]++;
     else tally.withinFaults[r.oldCreated ? OLD_SIDE_WITH_TYPE : WINDOW_WITH_TYPE]++;
@@ -601,23 +604,31 @@ bool recordsAgree(const Bytes &bytes, const Fields &f, size_t places, size_t len
     if (read) std::copy(read->begin(), read->end(), fields2.begin());
     if (said != (read ? DONE : MALFORMED) || fields != fields2) return false;
     Bytes out(std::max<size_t>(length, 1), 0xa5), out2 = out;
-    said = lupinenblatt_record_write(f[0], f[1], f[2], f[3], f[4], f[5], f[6], f[7], f[8], f[9], out.data(), length);
+    said = lupinenblatt_record_write(f[0], f[1], f[2], f[3], f[4], f[5], f[6], f[7], f[8], f[9], f[10], out.data(), length);
     std::optional<Bytes> written = writeRecord(f, length);
     if (written) out2 = *written;
     return said == (written ? DONE : MALFORMED) && out == out2;
 }
 
+// The type in the record that is read and in the fields that are written, but for other places and lengths.
+void countRecords(const Bytes &bytes, const Fields &f, size_t places, size_t length) {
+    std::optional<Fields> read = readRecord(bytes.data(), bytes.size());
+    tally.within[RECORD_READ] += places == FIELDS && read && (*read)[FIELDS - 1] != 0;
+    if (length != RECORD || f[FIELDS - 1] == 0) return;
+    bool written = writeRecord(f, length).has_value();
+    tally.within[written ? RECORD_WRITTEN : f[FIELDS - 1] == 1 ? RECORD_REFUSED : RECORD_TOO_WIDE]++;
+}
+
 void compareRecords(Dice &d, const Event &e) {
-    if (e.within) return;  // it has no fields yet, see hasNoFields
     tally.records++;
-    Fields f = fieldsOf(e);
+    Fields f = d.chance(20) ? mistyped(d, e) : fieldsOf(e);
     if (d.chance(50)) {  // one field too wide or otherwise odd
-        size_t i = d.below(FIELDS);
+        size_t i = d.chance(10) ? FIELDS - 1 : d.below(FIELDS);
         f[i] = d.chance(40) ? f[i] + (uint64_t(1) << WIDTHS[i]) : d.chance(50) ? uint64_t(1) << d.below(64) : d.below(LAST_CAUSE + 2);
     }
     Bytes bytes = d.chance(50) ? packEvent(e) : damagedRecord(d, e);
-    if (hasNoFields(bytes.data(), bytes.size())) return;
     size_t places = d.chance(90) ? FIELDS : d.below(FIELDS + 3), length = d.chance(85) ? RECORD : d.below(2 * RECORD + 2);
+    countRecords(bytes, f, places, length);
     if (recordsAgree(bytes, f, places, length)) return;
     tally.differ++;
     std::printf("DIFFERENCE %llu: record %s read to %zu places, or fields", (unsigned long long)tally.differ,
@@ -952,10 +963,13 @@ bool printWithin() {
         "activation closed, told once", "activation failed, told once", "create of two providers, 9 by a worked version of the type",
         "a closing of one makes the live version old", "a closing of another makes one old", "kind 7 from its provider: 7",
         "kind 8 from its provider: 7", "malformed: the type in another kind", "malformed: the type with two providers",
-        "malformed: a provider twice without the type"};
+        "malformed: a provider twice without the type", "a record of the type read", "a record of the type written",
+        "fields with the type not written", "fields with more than 1 for the type not written"};
     bool good = true;
-    if (!WITHIN_PROVIDER) return good;
-    std::printf("within one provider\n");
+    const auto &[ofTwo, ofOne] = tally.creates;
+    std::printf("within one provider: %llu of %llu creates, %llu of %llu done\n", (unsigned long long)(ofOne[0] + ofOne[1]),
+                (unsigned long long)(ofTwo[0] + ofTwo[1] + ofOne[0] + ofOne[1]), (unsigned long long)ofOne[1],
+                (unsigned long long)(ofTwo[1] + ofOne[1]));
     for (size_t i = 0; i < WITHIN; i++) {
         std::printf("    %-76s", what[i]);
         good = seen(tally.within[i]) && good;
@@ -969,7 +983,7 @@ bool printWithinFaults() {
     static const char *const what[WITHIN_FAULTS] = {
         "14: two providers with the type", "14: a provider twice without the type", "37: the old side has created", "37: the window mark alone"};
     bool good = true;
-    for (size_t i = 0; WITHIN_PROVIDER && i < WITHIN_FAULTS; i++) {
+    for (size_t i = 0; i < WITHIN_FAULTS; i++) {
         std::printf("    %-76s", what[i]);
         good = seen(tally.withinFaults[i]) && good;
         std::printf("\n");

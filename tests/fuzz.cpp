@@ -362,7 +362,6 @@ void checkFaults(Dice &d, Places &p, const Input &in) {
 
 // The record's two calls: 0 or 2, nothing written with 2, nothing outside. A guard number stands before and behind the fields.
 void checkRecord(Dice &d, Places &p, const Input &in) {
-    if (hasNoFields(in.event.data(), in.event.size())) return;
     size_t length = d.chance(70) ? RECORD : d.below(60), places = d.chance(80) ? FIELDS : d.below(2 * FIELDS);
     uint8_t *event = p.event.lay(d, in.event);
     const uint64_t blankField = 0x0123456789abcdef;
@@ -383,7 +382,7 @@ void checkRecord(Dice &d, Places &p, const Input &in) {
     if (d.chance(30)) f[d.below(FIELDS)] = d.next() >> d.below(64);
     Bytes blank(length, 0x3c);
     uint8_t *out = p.tray.lay(d, blank);
-    said = lupinenblatt_record_write(f[0], f[1], f[2], f[3], f[4], f[5], f[6], f[7], f[8], f[9], out, length);
+    said = lupinenblatt_record_write(f[0], f[1], f[2], f[3], f[4], f[5], f[6], f[7], f[8], f[9], f[10], out, length);
     bool writes = writeRecord(f, length).has_value();
     if (said != (writes ? 0 : 2)) what = "record_write answers wrongly";
     else if (said == 2 && !p.tray.same(0)) what = "record_write refused and wrote";

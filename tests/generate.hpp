@@ -135,8 +135,8 @@ inline Systems anySystems(Dice &d, const Situation &s, const Systems &a, const S
 }
 
 // How often, in a hundred, a version whose status allows it, and a create, are of the type "within one provider" (A14).
-constexpr uint64_t OF_TYPE = 25 * WITHIN_PROVIDER;
-inline bool anyType(Dice &d) { return OF_TYPE != 0 && d.chance(OF_TYPE); }
+constexpr uint64_t OF_TYPE = 25;
+inline bool anyType(Dice &d) { return d.chance(OF_TYPE); }
 
 // The one side of a version within one provider.
 inline void makeOneSide(Dice &d, const Situation &s, Version &v) {
@@ -303,7 +303,7 @@ inline Event filled(Dice &d, const Situation &s, Event e, Time atLeast) {
 inline Event aCreateWithin(Dice &d, const Situation &s, Tn tn) {
     Event e;
     Provider current = currentProvider(s.table, s.books, tn);
-    e.kind = NEW_CREATES, e.tn = tn, e.within = true;
+    e.kind = NEW_CREATES, e.tn = tn, e.within = 1;
     e.sender = e.other = current != 0 && d.chance(85) ? current : anyPresent(d, s);
     return filled(d, s, e, 0);
 }
@@ -478,16 +478,20 @@ inline Event nextEvent(Dice &d, const Situation &s, uint64_t good) {
 // ---- Damage ----
 
 // The type where it mostly does not belong: in another kind, with two providers; a provider twice without it, or in the other create.
-inline Bytes mistypedRecord(Dice &d, const Event &e) {
+inline Fields mistyped(Dice &d, const Event &e) {
     Fields f = fieldsOf(e);
-    if (e.kind > OLD_CREATES || d.chance(50)) return packFields(f, !e.within);
+    if (e.kind > OLD_CREATES || d.chance(50)) {
+        f[10] = !e.within;
+        return f;
+    }
     f[2] = e.within ? f[1] % PROVIDERS + 1 : f[1];
-    return packFields(f, e.within || d.chance(30));
+    if (d.chance(30)) f[10] = 1;
+    return f;
 }
 
 // A record that is mostly malformed: one field or bit changed, another length.
 inline Bytes damagedRecord(Dice &d, const Event &e) {
-    if (OF_TYPE != 0 && d.chance(30)) return mistypedRecord(d, e);
+    if (d.chance(30)) return packFields(mistyped(d, e));
     Fields f = fieldsOf(e);
     switch (d.below(5)) {
     case 0: {
@@ -496,20 +500,20 @@ inline Bytes damagedRecord(Dice &d, const Event &e) {
                                        LAST_TIME, 9999999999, 10000000000, 1999999999, 2001999999};
         f[i] = d.chance(70) ? odd[d.below(std::size(odd))] : d.next();
         if (WIDTHS[i] < 64) f[i] &= (uint64_t(1) << WIDTHS[i]) - 1;
-        return packFields(f, e.within);
+        return packFields(f);
     }
-    case 1: return packFields(f, e.within, uint64_t(1) << d.below(SPARE));
+    case 1: return packFields(f, uint64_t(1) << d.below(SPARE));
     case 2: {
-        Bytes out = packFields(f, e.within);
+        Bytes out = packFields(f);
         out.resize(d.pick(std::vector<size_t>{0, 1, RECORD - 1, RECORD + 1, 2 * RECORD}));
         return out;
     }
     case 3: {
         f[0] = d.chance(80) ? d.below(KINDS + 3) : d.below(256);
-        return packFields(f, e.within);
+        return packFields(f);
     }
     default: {
-        Bytes out = packFields(f, e.within);
+        Bytes out = packFields(f);
         size_t bit = d.below(RECORD * 8);
         out[bit / 8] = uint8_t(out[bit / 8] ^ 1u << bit % 8);
         return out;
@@ -525,7 +529,7 @@ inline void damageVersion(Dice &d, Version &v) {
     else if (d.chance(60) && !v.failed.empty()) p = *v.failed.begin();
     auto flip = [&](Systems &set) { if (!set.erase(p)) set.insert(p); };
     auto time = [&](Time &t) { t = d.chance(50) ? 0 : d.between(1, LAST_TIME); };
-    switch (d.below(24 + WITHIN_PROVIDER)) {
+    switch (d.below(25)) {
     case 0: case 1: case 2: v.status = Status(d.chance(90) ? d.below(STATUSES) : d.below(STATUS_VALUES)); break;
     case 3: v.live = !v.live; break;
     case 4: v.newCreated = !v.newCreated; break;
@@ -594,7 +598,7 @@ inline void damageEdge(Dice &d, Version &v) {
 }
 
 // A bit of a row that no value has: a spare one, the highest of a word of retries, one of these or nobody's in a set.
-inline size_t spareBit(Dice &d) { return d.chance(50) ? 58 + TYPE + d.below(6 - TYPE) : 64 + 59 + d.below(5); }
+inline size_t spareBit(Dice &d) { return d.chance(50) ? 59 + d.below(5) : 64 + 59 + d.below(5); }
 inline size_t unusedRetriesBit(Dice &d) { return 64 * d.between(7, 9); }
 inline size_t unusedBit(Dice &d) { return d.chance(50) ? spareBit(d) : d.chance(50) ? 64 * d.between(4, 6) + 63 : unusedRetriesBit(d); }
 

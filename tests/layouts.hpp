@@ -48,9 +48,6 @@ class WordReader {
     }
 };
 
-// [A14] How many bits the type has in a row and in a record: the first of the spare ones behind the fields.
-constexpr int TYPE = WITHIN_PROVIDER;
-
 inline uint64_t wordOf(const Systems &s) {
     uint64_t word = 0;
     for (Provider p : s) word += uint64_t(1) << p;
@@ -80,7 +77,7 @@ inline WordWriter retriesOf(const Version &v, Provider first) {
 
 inline void packRow(const Version &v, uint8_t *out) {
     WordWriter().put(v.tn.digits, 34).put(v.number, 16).put(uint64_t(v.status), 4).put(v.live, 1).put(v.newCreated, 1).put(v.oldCreated, 1)
-        .put(v.windowRanOut, 1).put(v.within, TYPE).put(0, 6 - TYPE).into(out);
+        .put(v.windowRanOut, 1).put(v.within, 1).put(0, 5).into(out);
     WordWriter().put(v.lrn.digits, 34).put(v.newProvider, 6).put(v.oldProvider, 6).put(uint64_t(v.authorization), 2).put(v.cause, 7)
         .put(uint64_t(v.canceller), 2).put(uint64_t(v.purpose), 2).put(0, 5).into(out + 8);
     WordWriter().put(v.newDue, 32).put(v.oldDue, 32).into(out + 16);
@@ -108,14 +105,14 @@ inline Row readRow(const uint8_t *in) {
     Row v;
     WordReader w0(in), w1(in + 8), w2(in + 16), w3(in + 24);
     v.tn.digits = w0.take(34), v.number = w0.take(16), v.status = Status(w0.take(4)), v.live = w0.take(1), v.newCreated = w0.take(1);
-    v.oldCreated = w0.take(1), v.windowRanOut = w0.take(1), v.within = w0.take(TYPE);
+    v.oldCreated = w0.take(1), v.windowRanOut = w0.take(1), v.within = w0.take(1);
     v.lrn.digits = w1.take(34), v.newProvider = w1.take(6), v.oldProvider = w1.take(6), v.authorization = Authorization(w1.take(2));
     v.cause = w1.take(7), v.canceller = Side(w1.take(2)), v.purpose = Purpose(w1.take(2));
     v.newDue = w2.take(32), v.oldDue = w2.take(32), v.stamp = w3.take(32), v.start = w3.take(32);
     v.confirmed = systemsIn(WordReader(in + 32).take(64));
     v.waiting = systemsIn(WordReader(in + 40).take(64));
     v.failed = systemsIn(WordReader(in + 48).take(64));
-    v.spare = w0.take(6 - TYPE) != 0 || w1.take(5) != 0;
+    v.spare = w0.take(5) != 0 || w1.take(5) != 0;
     readRetries(v, 1, in + 56);
     readRetries(v, 22, in + 64);
     readRetries(v, 43, in + 72);
@@ -240,43 +237,42 @@ inline void packTray(const Messages &messages, uint8_t *tray) {
 
 // ---- Event record ----
 
-// [E1] The widths, in order; the type [A14] and the spare bits, 14 together, end the record. The ten fields as numbers, in this order.
-constexpr std::array<int, FIELDS> WIDTHS = {8, 6, 6, 2, 8, 34, 34, 16, 32, 32};
-constexpr int SPARE = 14 - TYPE;
+// [E1] The widths, in order, the last that of the type [A14]; the spare bits end the record. The eleven fields as numbers, in this order.
+constexpr std::array<int, FIELDS> WIDTHS = {8, 6, 6, 2, 8, 34, 34, 16, 32, 32, 1};
+constexpr int SPARE = 13;
 using Fields = std::array<uint64_t, FIELDS>;
 
 constexpr size_t bitsOfRecord() {
-    size_t bits = TYPE + SPARE;
+    size_t bits = SPARE;
     for (size_t i = 0; i < FIELDS; i++) bits += size_t(WIDTHS[i]);
     return bits;
 }
 static_assert(RECORD * 8 == bitsOfRecord() && WIDTHS[FIELDS - 1] != 0, "a record of these widths");
 
 inline Fields fieldsOf(const Event &e) {
-    return {e.kind, e.sender, e.other, e.mark, e.cause, e.tn.digits, e.lrn.digits, e.version, e.time, e.due};
+    return {e.kind, e.sender, e.other, e.mark, e.cause, e.tn.digits, e.lrn.digits, e.version, e.time, e.due, e.within};
 }
 
 inline Event eventOf(const Fields &f) {
     Event e;
     e.kind = f[0], e.sender = f[1], e.other = f[2], e.mark = f[3], e.cause = f[4], e.tn.digits = f[5], e.lrn.digits = f[6];
-    e.version = f[7], e.time = f[8], e.due = f[9];
+    e.version = f[7], e.time = f[8], e.due = f[9], e.within = f[10];
     return e;
 }
 
-// Packs the low bits of any fields and the type, well formed or not: the tests need records that are refused as well.
-inline Bytes packFields(const Fields &f, bool within, uint64_t spare = 0) {
+// Packs the low bits of any fields, well formed or not: the tests need records that are refused as well.
+inline Bytes packFields(const Fields &f, uint64_t spare = 0) {
     Bytes out(RECORD, 0);
     size_t bit = 0;
     auto put = [&](uint64_t value, int width) {
         for (int i = width - 1; i >= 0; i--, bit++) out[bit / 8] = uint8_t(out[bit / 8] | (value >> i & 1) << (7 - bit % 8));
     };
     for (size_t i = 0; i < f.size(); i++) put(f[i], WIDTHS[i]);
-    put(within, TYPE);
     put(spare, SPARE);
     return out;
 }
 
-inline Bytes packEvent(const Event &e) { return packFields(fieldsOf(e), e.within); }
+inline Bytes packEvent(const Event &e) { return packFields(fieldsOf(e)); }
 
 // Nothing where the length or the spare bits are wrong; whether the event is well formed is asked of the model.
 inline std::optional<Event> unpackEvent(const uint8_t *in, size_t length) {
@@ -289,20 +285,14 @@ inline std::optional<Event> unpackEvent(const uint8_t *in, size_t length) {
     };
     Fields f;
     for (size_t i = 0; i < f.size(); i++) f[i] = take(WIDTHS[i]);
-    Event e = eventOf(f);
-    e.within = take(TYPE);
     if (take(SPARE) != 0) return std::nullopt;
-    return e;
+    return eventOf(f);
 }
 
 inline bool formed(const uint8_t *in, size_t length) {
     std::optional<Event> e = unpackEvent(in, length);
     return e && wellFormed(*e);
 }
-
-// A well-formed record of the type. The two calls below have no field for it, so such records are left out where the calls are compared
-// (compareRecords, checkRecord, bench/). When the calls take an eleventh field, the type is the last of Fields and WIDTHS, and this goes.
-inline bool hasNoFields(const uint8_t *in, size_t length) { return formed(in, length) && unpackEvent(in, length)->within; }
 
 // [E5] [E6] Reading and writing as the calls for C have them: 0 with the result, or 2 and nothing.
 inline std::optional<Fields> readRecord(const uint8_t *in, size_t length) {
@@ -312,7 +302,7 @@ inline std::optional<Fields> readRecord(const uint8_t *in, size_t length) {
 
 inline std::optional<Bytes> writeRecord(const Fields &f, size_t length) {
     if (length != RECORD || !wellFormed(eventOf(f))) return std::nullopt;
-    return packFields(f, false);
+    return packFields(f);
 }
 
 }  // namespace MODEL

@@ -143,7 +143,7 @@ struct Version {
     bool newCreated = false, oldCreated = false;
     Side canceller = NOBODY;
     bool windowRanOut = false;
-    bool within = false;  // [A14] the type: within one provider; never where layouts.hpp has no bit for it
+    bool within = false;  // [A14] the type: within one provider
     bool live = false;
     Time stamp = 0;
     Time start = 0;
@@ -304,7 +304,7 @@ struct Event {
     Lrn lrn;
     uint64_t version = 0;
     Time time = 0, due = 0;
-    bool within = false;  // [A14] the type of the version that it creates
+    uint64_t within = 0;  // [A14] the type of the version that it creates: 1 within one provider
 };
 
 // [E2] Which fields a kind names, besides TN and time.
@@ -323,7 +323,7 @@ inline Named fieldsOf(uint64_t kind) {
 }
 
 // [E2] [E3] [E4] Named fields are non-zero and in range, unused ones zero, but for the sender of kinds 3 to 10 and 13 to 15 and the cause.
-// [A14] The type stands in kind 1 alone; there, and nowhere else, sender and other are the same.
+// [A14] The type is 0 or 1 and stands in kind 1 alone; with it, and never without it, sender and other are the same.
 inline bool wellFormed(const Event &e) {
     if (e.kind < 1 || e.kind > 15 || !tenDigits(e.tn.digits) || !isTime(e.time)) return false;
     Named named = fieldsOf(e.kind);
@@ -336,8 +336,9 @@ inline bool wellFormed(const Event &e) {
     if (named.lrn ? !tenDigits(e.lrn.digits) : e.lrn.digits != 0) return false;
     if (named.version ? !(e.version >= 1 && e.version <= 65535) : e.version != 0) return false;
     if (named.due ? !isTime(e.due) : e.due != 0) return false;
-    if (e.within && e.kind != NEW_CREATES) return false;
-    if ((e.kind == NEW_CREATES || e.kind == OLD_CREATES) && (e.sender == e.other) != e.within) return false;
+    if (e.within > 1) return false;
+    if (e.within != 0 && e.kind != NEW_CREATES) return false;
+    if ((e.kind == NEW_CREATES || e.kind == OLD_CREATES) && (e.sender == e.other) != (e.within != 0)) return false;
     return true;
 }
 
@@ -626,7 +627,7 @@ inline void create(Table &t, const Books &b, const Event &e, Messages &out) {
     v.status = PENDING;
     v.newProvider = e.kind == NEW_CREATES ? e.sender : e.other;
     v.oldProvider = e.kind == NEW_CREATES ? e.other : e.sender;
-    v.within = e.within;
+    v.within = e.within != 0;
     takeValues(v, e);
     putInOrder(t, v);
     tellSides(out, v, CREATION);

@@ -1,19 +1,13 @@
 /*
  * How many there are of each, and how large each is: what the arrays, loops and clamps of tests/ and bench/ are made from.
  *
- * What include/lupinenblatt.h has is taken from it. A rule is not taken from here, but for one switch: model.hpp, faults.hpp and
- * bench/hand.c spell the numbers of document 01 where its rules stand, and layouts.hpp and hand.c do not compile where their own numbers are
- * not these.
+ * What include/lupinenblatt.h has is taken from it. A rule is not taken from here: model.hpp, faults.hpp and bench/hand.c spell the numbers
+ * of the papers where their rules stand, and layouts.hpp and hand.c do not compile where their own numbers are not these.
  */
 #ifndef LUPINENBLATT_TESTS_SIZES_H
 #define LUPINENBLATT_TESTS_SIZES_H
 
 #include "lupinenblatt.h"
-
-/* 1 once request A14 has landed: rows and records have a bit for the type "within one provider". Until then it is a spare bit. */
-#ifndef WITHIN_PROVIDER
-#define WITHIN_PROVIDER 0
-#endif
 
 /* A name for a number: in C++ a size_t, in C an enumerator. */
 #ifdef __cplusplus
@@ -32,7 +26,7 @@ NUMBER(PURPOSES, LUPINENBLATT_PURPOSE_DISCONNECT + 1);          /* purposes of a
 NUMBER(CANCELLERS, LUPINENBLATT_CANCELLER_OLD + 1);             /* cancellers, from 0 for nobody */
 NUMBER(MARKS, LUPINENBLATT_NO + 1);                             /* authorizations and results, from 0 for none */
 NUMBER(CLASSES, LUPINENBLATT_CLASS_FILTERS_BOTH + 1);           /* classes that selection gives a provider, from 0 */
-NUMBER(TABLE_CLAUSES, LUPINENBLATT_TABLE_FAULT_LINE_NUMBER + WITHIN_PROVIDER);  /* clauses of docs/FAULTS.md for a table, from 1; 0 is none */
+NUMBER(TABLE_CLAUSES, LUPINENBLATT_TABLE_FAULT_WITHIN);         /* clauses of docs/FAULTS.md for a table, from 1; 0 is none */
 NUMBER(BOOKS_CLAUSES, LUPINENBLATT_BOOKS_FAULT_PAIRED_TWICE);   /* likewise for provider list and books */
 
 /* The event record. */

@@ -102,8 +102,9 @@ extern "C" uint8_t lupinenblatt_record_read(const uint8_t *bytes, size_t length,
 }
 
 extern "C" uint8_t lupinenblatt_record_write(uint64_t kind, uint64_t sender, uint64_t other, uint64_t mark, uint64_t cause, uint64_t tn,
-                                             uint64_t lrn, uint64_t version, uint64_t time, uint64_t due, uint8_t *out, size_t length) {
-    std::optional<Bytes> bytes = writeRecord({kind, sender, other, mark, cause, tn, lrn, version, time, due}, length);
+                                             uint64_t lrn, uint64_t version, uint64_t time, uint64_t due, uint64_t within, uint8_t *out,
+                                             size_t length) {
+    std::optional<Bytes> bytes = writeRecord({kind, sender, other, mark, cause, tn, lrn, version, time, due, within}, length);
     if (!bytes) return MALFORMED;
     std::copy(bytes->begin(), bytes->end(), out);
     return DONE;
