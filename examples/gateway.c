@@ -122,7 +122,7 @@ static int is_expected(const event *e, lupinenblatt_answer a, const desk *before
 static int run(desk *d, const event *e)
 {
     static desk before;
-    lupinenblatt_event fields = {e->kind, e->sender, e->other, e->mark, 0, TN, e->lrn, e->version, e->time, e->due};
+    lupinenblatt_event fields = {e->kind, e->sender, e->other, e->mark, 0, TN, e->lrn, e->version, e->time, e->due, 0};
     uint8_t record[LUPINENBLATT_RECORD_BYTES];
     lupinenblatt_answer a;
     if (lupinenblatt_event_write(fields, record, sizeof record) != LUPINENBLATT_DONE) {

@@ -59,7 +59,7 @@ static void sizes(void)
 
 static void events(void)
 {
-    lupinenblatt_event e = {1, 2, 1, 0, 0, 3035550100u, 3035550000u, 0, 10, 100}, back, kept;
+    lupinenblatt_event e = {1, 2, 1, 0, 0, 3035550100u, 3035550000u, 0, 10, 100, 0}, back, kept;
     uint8_t out[25];
     memset(out, 0xa5, sizeof out);
     CHECK(lupinenblatt_event_write(e, out, 24) == LUPINENBLATT_DONE);
@@ -67,8 +67,8 @@ static void events(void)
     memset(&back, 0xff, sizeof back);
     CHECK(lupinenblatt_event_read(record, 24, &back) == LUPINENBLATT_DONE);
     CHECK(back.kind == 1 && back.sender == 2 && back.other == 1 && back.mark == 0 && back.cause == 0);
-    CHECK(back.tn == 3035550100u && back.lrn == 3035550000u && back.version == 0 && back.time == 10 && back.due == 100);
-    lupinenblatt_event all = {4, 7, 0, 2, 99, 3035550100u, 0, 513, 4294967295u, 77};
+    CHECK(back.tn == 3035550100u && back.lrn == 3035550000u && back.version == 0 && back.time == 10 && back.due == 100 && back.within == 0);
+    lupinenblatt_event all = {4, 7, 0, 2, 99, 3035550100u, 0, 513, 4294967295u, 77, 0};
     CHECK(lupinenblatt_event_write(all, out, 24) == LUPINENBLATT_DONE && lupinenblatt_event_read(out, 24, &back) == LUPINENBLATT_DONE);
     CHECK(back.mark == 2 && back.cause == 99 && back.version == 513 && back.time == 4294967295u && back.due == 77 && back.lrn == 0);
     memset(out, 0xa5, sizeof out);
@@ -78,6 +78,38 @@ static void events(void)
     CHECK(lupinenblatt_event_write(e, out, 25) == LUPINENBLATT_MALFORMED && out[0] == 0xa5);
     kept = back;
     CHECK(lupinenblatt_event_read(record, 23, &back) == LUPINENBLATT_MALFORMED && memcmp(&kept, &back, sizeof kept) == 0);
+}
+
+/* The type within one provider: its record by hand, and each form that is malformed. */
+static void events_within(void)
+{
+    lupinenblatt_event e = {1, 2, 2, 0, 0, 3035550100u, 3035550000u, 0, 10, 100, 1}, back, bad;
+    uint8_t out[24], expected[24];
+    memcpy(expected, record, 24);
+    expected[2] = 0x20, expected[22] = 0x20;
+    CHECK(lupinenblatt_event_write(e, out, 24) == LUPINENBLATT_DONE && memcmp(out, expected, 24) == 0);
+    CHECK(lupinenblatt_event_read(expected, 24, &back) == LUPINENBLATT_DONE);
+    CHECK(back.kind == 1 && back.sender == 2 && back.other == 2 && back.due == 100 && back.within == 1);
+    memset(out, 0xa5, sizeof out);
+    bad = e, bad.within = 0;
+    CHECK(lupinenblatt_event_write(bad, out, 24) == LUPINENBLATT_MALFORMED);
+    bad = e, bad.other = 1;
+    CHECK(lupinenblatt_event_write(bad, out, 24) == LUPINENBLATT_MALFORMED);
+    bad = e, bad.sender = 0, bad.other = 0;
+    CHECK(lupinenblatt_event_write(bad, out, 24) == LUPINENBLATT_MALFORMED);
+    bad = e, bad.within = 2;
+    CHECK(lupinenblatt_event_write(bad, out, 24) == LUPINENBLATT_MALFORMED);
+    bad = e, bad.within = 257;
+    CHECK(lupinenblatt_event_write(bad, out, 24) == LUPINENBLATT_MALFORMED);
+    bad = e, bad.kind = 2, bad.mark = 1, bad.lrn = 0;
+    CHECK(lupinenblatt_event_write(bad, out, 24) == LUPINENBLATT_MALFORMED);
+    bad = e, bad.kind = 5, bad.other = 0, bad.lrn = 0, bad.due = 0, bad.version = 1;
+    CHECK(lupinenblatt_event_write(bad, out, 24) == LUPINENBLATT_MALFORMED && out[0] == 0xa5 && out[23] == 0xa5);
+    bad.within = 0;
+    CHECK(lupinenblatt_event_write(bad, out, 24) == LUPINENBLATT_DONE && lupinenblatt_event_read(out, 24, &back) == LUPINENBLATT_DONE);
+    CHECK(back.kind == 5 && back.within == 0);
+    expected[22] = 0x10;
+    CHECK(lupinenblatt_event_read(expected, 24, &back) == LUPINENBLATT_MALFORMED && back.kind == 5);
 }
 
 static void sets(void)
@@ -102,6 +134,7 @@ static void trays(void)
 static void tables(void)
 {
     static const uint8_t free_row[LUPINENBLATT_ROW_BYTES] = {0};
+    uint8_t row[LUPINENBLATT_ROW_BYTES];
     lupinenblatt_row_fields r = lupinenblatt_row(rows, 0), zero;
     CHECK(r.tn == 3035550100u && r.version == 1 && r.status == LUPINENBLATT_ACTIVE && r.live && r.new_created && r.old_created);
     CHECK(!r.window_ran_out && r.lrn == 3035550000u && r.new_provider == 2 && r.old_provider == 1 && r.cause == 0 && r.canceller == 0);
@@ -116,9 +149,14 @@ static void tables(void)
     CHECK(r.waiting == ((uint64_t)1 << 22 | 4) && r.failed == (uint64_t)1 << 43);
     for (unsigned p = 0; p <= PROVIDERS; p++)
         CHECK(r.retries[p] == (p == 1 ? 7 : p == 21 ? 5 : p == 22 ? 3 : p == 42 ? 1 : p == 43 ? 6 : p == 63 ? 2 : 0));
+    CHECK(r.within == 0 && lupinenblatt_row(rows, 0).within == 0);
+    memcpy(row, rows, sizeof row);
+    row[7] = 0x20;
+    r = lupinenblatt_row(row, 0);
+    CHECK(r.within == 1 && r.window_ran_out == 0 && r.old_created == 0 && r.live == 1 && lupinenblatt_row_within(row) == 1);
     r = lupinenblatt_row(free_row, 0);
     memset(&zero, 0, sizeof zero);
-    CHECK(r.tn == 0 && r.version == 0 && r.stamp == 0 && r.confirmed == 0 && memcmp(r.retries, zero.retries, sizeof r.retries) == 0);
+    CHECK(r.tn == 0 && r.version == 0 && r.stamp == 0 && r.within == 0 && r.confirmed == 0 && memcmp(r.retries, zero.retries, sizeof r.retries) == 0);
 }
 
 static uint8_t books[LUPINENBLATT_BOOKS_BYTES];
@@ -259,10 +297,10 @@ static lupinenblatt_answer short_call(uint8_t *table, uint8_t *tray, lupinenblat
 static void retries(void)
 {
     static uint8_t table[LUPINENBLATT_ROW_BYTES], tray[LUPINENBLATT_TRAY_BYTES];
-    lupinenblatt_event new_side = {LUPINENBLATT_NEW_CREATES, 2, 1, 0, 0, 3035550100u, 3035550000u, 0, 10, 10};
-    lupinenblatt_event old_side = {LUPINENBLATT_OLD_CREATES, 1, 2, LUPINENBLATT_YES, 0, 3035550100u, 0, 0, 10, 10};
-    lupinenblatt_event activate = {LUPINENBLATT_ACTIVATE, 2, 0, 0, 0, 3035550100u, 0, 1, 10, 0};
-    lupinenblatt_event silence = {LUPINENBLATT_SILENCE, 0, 2, 0, 0, 3035550100u, 0, 1, 10, 0};
+    lupinenblatt_event new_side = {LUPINENBLATT_NEW_CREATES, 2, 1, 0, 0, 3035550100u, 3035550000u, 0, 10, 10, 0};
+    lupinenblatt_event old_side = {LUPINENBLATT_OLD_CREATES, 1, 2, LUPINENBLATT_YES, 0, 3035550100u, 0, 0, 10, 10, 0};
+    lupinenblatt_event activate = {LUPINENBLATT_ACTIVATE, 2, 0, 0, 0, 3035550100u, 0, 1, 10, 0, 0};
+    lupinenblatt_event silence = {LUPINENBLATT_SILENCE, 0, 2, 0, 0, 3035550100u, 0, 1, 10, 0, 0};
     memset(books, 0, sizeof books);
     lupinenblatt_books_put_code(books, 0, 303555, 1);
     CHECK(LUPINENBLATT_DEFAULT_RETRIES == 3);
@@ -341,7 +379,7 @@ static void nulls(void)
     CHECK(lupinenblatt_selection(NULL, 0, books, sizeof books, 3035550100u, NULL, 0) == LUPINENBLATT_MALFORMED);
     CHECK(lupinenblatt_selection(NULL, 0, NULL, 0, 3035550100u, NULL, 0) == LUPINENBLATT_UNSOUND);
     CHECK(lupinenblatt_record_read(NULL, 0, NULL, 0) == LUPINENBLATT_MALFORMED);
-    CHECK(lupinenblatt_record_write(1, 2, 1, 0, 0, 3035550100u, 3035550000u, 0, 10, 100, NULL, 0) == LUPINENBLATT_MALFORMED);
+    CHECK(lupinenblatt_record_write(1, 2, 1, 0, 0, 3035550100u, 3035550000u, 0, 10, 100, 0, NULL, 0) == LUPINENBLATT_MALFORMED);
     a = lupinenblatt_step(NULL, 0, NULL, 0, books, sizeof books, 0, record, 24, tray, sizeof tray);
     CHECK(a.outcome == LUPINENBLATT_ABSENT && a.count == 0);
     a = lupinenblatt_step(table, sizeof table, NULL, 0, books, sizeof books, 0, NULL, 0, tray, sizeof tray);
@@ -370,6 +408,7 @@ int main(int count, char **arguments)
     }
     sizes();
     events();
+    events_within();
     sets();
     trays();
     tables();

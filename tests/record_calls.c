@@ -30,7 +30,7 @@ static uint8_t write_fields(const uint64_t *f, uint8_t *out, size_t length)
     return lupinenblatt_record_write(f[LUPINENBLATT_FIELD_KIND], f[LUPINENBLATT_FIELD_SENDER], f[LUPINENBLATT_FIELD_OTHER],
                                      f[LUPINENBLATT_FIELD_MARK], f[LUPINENBLATT_FIELD_CAUSE], f[LUPINENBLATT_FIELD_TN],
                                      f[LUPINENBLATT_FIELD_LRN], f[LUPINENBLATT_FIELD_VERSION], f[LUPINENBLATT_FIELD_TIME],
-                                     f[LUPINENBLATT_FIELD_DUE], out, length);
+                                     f[LUPINENBLATT_FIELD_DUE], f[LUPINENBLATT_FIELD_WITHIN], out, length);
 }
 
 static void read_case(const uint8_t *bytes, size_t length)

@@ -1,5 +1,5 @@
 #!/usr/bin/env python3
-"""The event record once more, written from document 01 alone, to hold the proved code to it.
+"""The event record once more, written from document 01 and request A14 of document 02 alone, to hold the proved code to it.
 
 Makes what the program crates/records reads and what it must write:
 
@@ -9,26 +9,26 @@ writes crates/records/stdin and crates/records/stdout.
 
 A case is a frame of 96 bytes: a letter, a length, and from byte 8 on what the letter asks for.
     R  read: so many bytes, at most 56, are read as a record; the fields are then written to 24 bytes
-    W  write: ten fields of 8 bytes each are written to so many bytes, at most 56
+    W  write: eleven fields of 8 bytes each are written to so many bytes, at most 56
     N  numbers: as W, through the calls for C, which take any number in any field
 A line of output is the case's place from 1, its letter, and
-    R  0, the ten fields, and what writing them back says and leaves; or 2
+    R  0, the eleven fields, and what writing them back says and leaves; or 2
     W  0 or 2, and the bytes afterwards (every byte was a5 before)
-    N  as W; after 0 also what reading the bytes back says, and the ten fields
+    N  as W; after 0 also what reading the bytes back says, and the eleven fields
 Each case is made with the answer that it is made for, and judged once more by `well_formed`.
 """
 import sys
 
 # 24 bytes, packed most significant bit first.
 WIDTHS = [("kind", 8), ("sender", 6), ("other", 6), ("mark", 2), ("cause", 8), ("tn", 34), ("lrn", 34),
-          ("version", 16), ("time", 32), ("due", 32)]
+          ("version", 16), ("time", 32), ("due", 32), ("within", 1)]
 NAMES = [name for name, _ in WIDTHS]
 BITS = dict(WIDTHS)
-SPARE = 14
+SPARE = 13
 
 # The kind decides among fifteen cases: the fields besides TN and time.
 USES = {
-    1: {"sender", "other", "lrn", "due"},
+    1: {"sender", "other", "lrn", "due", "within"},
     2: {"sender", "other", "mark", "cause", "due"},
     3: {"sender", "version", "lrn", "due"},
     4: {"sender", "version", "mark", "cause", "due"},
@@ -40,6 +40,10 @@ for plain in (5, 6, 7, 8, 10, 13, 14, 15):
     USES[plain] = {"sender", "version"}
 NPAC_MAY_SEND = {3, 4, 5, 6, 7, 8, 9, 10, 13, 14, 15}
 AUTHORIZES = {2, 4}
+
+
+def may_be_absent(e, name):
+    return name == "sender" and e["kind"] in NPAC_MAY_SEND or name == "cause" and e["mark"] == 1 or name == "within"
 
 
 def ten_digits(number):
@@ -57,9 +61,8 @@ def well_formed(e):
             return False
         if name not in uses and value != 0:
             return False
-        if name in uses and value == 0:
-            if not (name == "sender" and kind in NPAC_MAY_SEND) and not (name == "cause" and e["mark"] == 1):
-                return False
+        if name in uses and value == 0 and not may_be_absent(e, name):
+            return False
     if not ten_digits(e["tn"]) or ("lrn" in uses and not ten_digits(e["lrn"])):
         return False
     if "mark" in uses and e["mark"] not in (1, 2):
@@ -67,7 +70,7 @@ def well_formed(e):
     if "cause" in uses:
         if e["mark"] == 1 and e["cause"] != 0 or e["mark"] == 2 and not 1 <= e["cause"] <= 99:
             return False
-    return not (kind in (1, 2) and e["sender"] == e["other"])
+    return kind not in (1, 2) or (e["sender"] == e["other"]) == (e["within"] == 1)
 
 
 def pack(e, spare=0):
@@ -86,9 +89,10 @@ def unpack(record):
 
 # ---- what a field may be, and what it may not, in a kind
 
-LOW = {"sender": 1, "other": 1, "mark": 1, "cause": 0, "tn": 2002000000, "lrn": 2002000000, "version": 1, "time": 1, "due": 1}
+LOW = {"sender": 1, "other": 1, "mark": 1, "cause": 0, "tn": 2002000000, "lrn": 2002000000, "version": 1,
+       "time": 1, "due": 1, "within": 0}
 HIGH = {"sender": 63, "other": 63, "mark": 2, "cause": 99, "tn": 9999999999, "lrn": 9999999999, "version": 65535,
-        "time": 4294967295, "due": 4294967295}
+        "time": 4294967295, "due": 4294967295, "within": 0}
 NOT_TEN_DIGITS = [0, 1, 1999999999, 1992000000, 2001999999, 9991999999, 3030550100, 3031550100, 10000000000, 17179869183]
 
 
@@ -97,8 +101,13 @@ def usual(kind):
     e = {name: 0 for name in NAMES}
     e.update(kind=kind, tn=3035550100, time=10)
     for name in USES[kind]:
-        e[name] = {"sender": 2, "other": 1, "mark": 1, "cause": 0, "lrn": 3035550000, "version": 1, "due": 100}[name]
+        e[name] = {"sender": 2, "other": 1, "mark": 1, "cause": 0, "lrn": 3035550000, "version": 1, "due": 100, "within": 0}[name]
     return e
+
+
+def within(e, provider=2):
+    """A create of the new side made one within one provider."""
+    return dict(e, sender=provider, other=provider, within=1)
 
 
 def extremes(kind):
@@ -106,7 +115,7 @@ def extremes(kind):
     base = usual(kind)
     uses = USES[kind] | {"tn", "time"}
     yield base
-    for name in sorted(uses - {"cause"}):
+    for name in sorted(uses - {"cause", "within"}):
         for end in (LOW, HIGH):
             e = dict(base, **{name: end[name]})
             if name == "mark" and "cause" in uses and e["mark"] == 2:
@@ -124,6 +133,11 @@ def extremes(kind):
         if kind in (1, 2):
             e["other"] = {1: 2, 63: 62}[e["sender"]]
         yield e
+        if kind == 1:
+            yield within(base, end["sender"])
+            yield within(e, end["sender"])
+    if kind == 1:
+        yield within(base)
 
 
 def malformed(kind):
@@ -132,7 +146,7 @@ def malformed(kind):
     uses = USES[kind] | {"tn", "time"}
     for name in NAMES[1:]:
         if name not in uses:
-            for value in (1, (1 << BITS[name]) - 1):
+            for value in sorted({1, (1 << BITS[name]) - 1}):
                 yield dict(base, **{name: value})
         elif name in ("tn", "lrn"):
             for value in NOT_TEN_DIGITS:
@@ -147,13 +161,27 @@ def malformed(kind):
                 yield dict(base, mark=1, cause=value)
             for value in (0, 100, 255):
                 yield dict(base, mark=2, cause=value)
-        elif not (name == "sender" and kind in NPAC_MAY_SEND):
+        elif not may_be_absent(base, name):
             yield dict(base, **{name: 0})
     if kind in (1, 2):
         for value in (1, 63):
             yield dict(base, sender=value, other=value)
+    yield from mistyped(base)
     for value in (0, max(USES) + 1, 255):
         yield dict(base, kind=value)
+
+
+def mistyped(base):
+    """The type in another kind, also with a provider twice; in kind 1 with two providers, with none, or with another field at fault."""
+    if base["kind"] != 1:
+        yield within(base)
+        yield within(dict(usual(1), kind=base["kind"]))
+        return
+    for sender, other in ((2, 1), (1, 2), (63, 62), (1, 63), (0, 0), (0, 2), (2, 0)):
+        yield dict(base, sender=sender, other=other, within=1)
+    yield dict(base, sender=0, other=0)
+    for name, value in (("mark", 1), ("cause", 1), ("version", 1), ("lrn", 0), ("due", 0), ("time", 0), ("tn", 0)):
+        yield dict(within(base), **{name: value})
 
 
 def wide(kind):
@@ -162,9 +190,13 @@ def wide(kind):
         base = usual(kind)[name]
         for value in sorted({1 << BITS[name], base + (1 << BITS[name]), base + (1 << 32 if BITS[name] < 32 else 1 << 63), (1 << 64) - 1}):
             yield dict(usual(kind), **{name: value})
+    for value in (2, 3, 255, 256, 257, 1 << 32, (1 << 32) + 1, 1 << 63, (1 << 64) - 1) if kind == 1 else ():
+        yield dict(within(usual(kind)), within=value)
 
 
-TYPES = {"kind": 8, "sender": 8, "other": 8, "mark": 8, "cause": 8, "tn": 64, "lrn": 64, "version": 16, "time": 32, "due": 32}
+# The bits that a case W has for each field.
+TYPES = {"kind": 8, "sender": 8, "other": 8, "mark": 8, "cause": 8, "tn": 64, "lrn": 64, "version": 16, "time": 32, "due": 32,
+         "within": 8}
 
 
 # ---- frames and lines
@@ -204,6 +236,8 @@ for kind in sorted(USES):
         write(e, 24, False)
     for bit in range(SPARE):
         read(pack(usual(kind), 1 << bit), False)
+        if kind == 1:
+            read(pack(within(usual(kind)), 1 << bit), False)
     for length in (0, 23, 25, 48):
         read((pack(usual(kind)) * 2)[:length], False)
         write(usual(kind), length, False)
@@ -213,6 +247,8 @@ for kind in sorted(USES):
         write(e, 24, False, "N")
     for length in (0, 23, 24, 25, 48):
         write(usual(kind), length, length == 24, "N")
+        if kind == 1:
+            write(within(usual(kind)), length, length == 24, "N")
 
 if len(sys.argv) != 2:
     sys.exit(__doc__)

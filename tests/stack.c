@@ -58,7 +58,7 @@ static void record_read(void)
     lupinenblatt_record_read(event, sizeof event, fields, FIELDS);
 }
 
-static void record_write(void) { lupinenblatt_record_write(1, 2, 1, 0, 0, 3035550100u, 3035550000u, 0, 10, 100, event, sizeof event); }
+static void record_write(void) { lupinenblatt_record_write(1, 2, 1, 0, 0, 3035550100u, 3035550000u, 0, 10, 100, 0, event, sizeof event); }
 
 static void *on_thread(void *call)
 {
@@ -97,7 +97,7 @@ static void tell(const char *name, void (*f)(void))
 static void put_event(uint64_t kind, uint64_t sender, uint64_t other, uint64_t mark, uint64_t lrn, uint64_t version, uint64_t due)
 {
     uint64_t tn = kind <= LUPINENBLATT_OLD_CREATES || now % 2 == 0 ? 3035550100u : 6062000100u;
-    lupinenblatt_event e = {kind, sender, other, mark, 0, tn, lrn, version, now++, due};
+    lupinenblatt_event e = {kind, sender, other, mark, 0, tn, lrn, version, now++, due, 0};
     lupinenblatt_event_write(e, event, sizeof event);
     if (recorded < EVENTS)
         memcpy(events + RECORD * (size_t)recorded++, event, sizeof event);
@@ -118,6 +118,14 @@ static void each_kind(void)
     put_event(13, 0, 0, 0, 0, 1, 0), tell("step, kind 13", step);
     put_event(14, 0, 0, 0, 0, 1, 0), tell("step, kind 14", step);
     put_event(15, 0, 0, 0, 0, 1, 0), tell("step_default, kind 15", step_default);
+}
+
+/* A create within one provider, in the place of the other. */
+static void within(void)
+{
+    lupinenblatt_event e = {LUPINENBLATT_NEW_CREATES, 1, 1, 0, 0, 3035550100u, 3035550000u, 0, 10, 5, 1};
+    lupinenblatt_event_write(e, event, sizeof event);
+    tell("step, kind 1 within one provider", step);
 }
 
 /* Old versions of other lines: as many as leave a row free, of nearly every line one under each name. */
@@ -154,6 +162,8 @@ int main(void)
     memcpy(before, table, sizeof table);
     each_kind();
     memcpy(table, before, sizeof table);
+    within();
+    memcpy(table, before, sizeof table);
     tell("run", run), tell("table_check", table_check), tell("books_check", books_check);
     tell("selection", selection), tell("selection, a code of a pair", selection);
     tell("record_read", record_read), tell("record_write", record_write), tell("table_fault", table_fault), tell("books_fault", books_fault);
@@ -166,8 +176,8 @@ int main(void)
     tell("table_check, the last line at fault", table_check), tell("table_fault, the last line at fault", table_fault);
     table[sizeof table - 1] = 1, books[sizeof books - 2] = 1;
     tell("table_fault, unsound", table_fault), tell("books_fault, unsound", books_fault);
-    if (done != 70 || ran != recorded || told != 2) {
-        printf("%u events accepted instead of 70, %u of %u run, %u selections instead of 2\n", done, (unsigned)ran, recorded, told);
+    if (done != 71 || ran != recorded || told != 2) {
+        printf("%u events accepted instead of 71, %u of %u run, %u selections instead of 2\n", done, (unsigned)ran, recorded, told);
         return 1;
     }
     printf("%lu bytes of stack at most\n", (unsigned long)most);
