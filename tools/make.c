@@ -94,6 +94,14 @@ static uint64_t take_number(const char *name, uint64_t most)
     return value == NULL ? 0 : number_of(value, most, name);
 }
 
+/* A mark, which stands alone. */
+static uint64_t flag_of(const char *value, const char *name)
+{
+    if (*value != '\0')
+        refuse_line("'%s' takes no value", name);
+    return 1;
+}
+
 static int is_word(const char *value, const char *name)
 {
     for (; *name != '\0' && (*value == *name || (*value == '-' && *name == ' ')); value++)
@@ -175,12 +183,11 @@ static void make_row(uint8_t *at)
             refuse_line("'%s' is missing", f->name);
         if (value == NULL)
             continue;
-        if (f->form == FLAG && *value != '\0')
-            refuse_line("'%s' takes no value", f->name);
         if (f->form == SET || f->form == RETRIES)
             put_list(at, f, value);
         else
-            put_bits(at, f->word, f->low, f->form == FLAG ? 1 : f->form == NUMBER ? number_of(value, mask_of(f->width), f->name)
+            put_bits(at, f->word, f->low, f->form == FLAG ? flag_of(value, f->name)
+                         : f->form == NUMBER ? number_of(value, mask_of(f->width), f->name)
                          : word_of(value, f->names, 0, f->last, mask_of(f->width), f->name));
     }
 }
@@ -262,7 +269,8 @@ static void make_books_line(uint8_t *books)
 
 static const char *taken_by(uint64_t kind)
 {
-    return kind == 1 ? "sender, other, tn, lrn, time, due" : kind == 2 ? "sender, other, mark, cause with no, tn, time, due"
+    return kind == 1 ? "sender, other, tn, lrn, time, due, within exactly where sender and other are the same"
+        : kind == 2 ? "sender, other, mark, cause with no, tn, time, due"
         : kind == 3 ? "sender, tn, lrn, version, time, due" : kind == 4 ? "sender, mark, cause with no, tn, version, time, due"
         : kind == 9 ? "sender, tn, lrn, version, time" : kind == 11 ? "sender from 1, mark, tn, version, time"
         : kind == 12 ? "sender 0, other, tn, version, time" : kind >= 1 && kind <= 15 ? "sender, tn, version, time" : "1 to 15";
@@ -272,7 +280,7 @@ static const char *taken_by(uint64_t kind)
 static size_t make_event(uint8_t *at)
 {
     lupinenblatt_event e;
-    char *value = take("hex"), *kind, *mark;
+    char *value = take("hex"), *kind, *mark, *within;
     if (value != NULL)
         return put_hex(at, value, LUPINENBLATT_RECORD_BYTES);
     kind = take("kind");
@@ -289,6 +297,8 @@ static size_t make_event(uint8_t *at)
     e.version = take_number("version", UINT64_MAX);
     e.time = take_number("time", UINT64_MAX);
     e.due = take_number("due", UINT64_MAX);
+    within = take("within");
+    e.within = within == NULL ? 0 : flag_of(within, "within");
     none_left();
     if (lupinenblatt_event_write(e, at, LUPINENBLATT_RECORD_BYTES) != LUPINENBLATT_DONE)
         refuse_line("no well-formed record; its kind takes %s, in their ranges", taken_by(e.kind));

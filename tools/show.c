@@ -168,6 +168,8 @@ static void show_events(const bytes *b)
             print_number("version", e.version);
             print_number("time", e.time);
             print_number("due", e.due);
+            if (e.within != 0)
+                printf(" within");
         }
         printf("\n");
     }

@@ -114,6 +114,7 @@ const field row_fields[ROW_FIELDS] = {
     {"cause", NUMBER, 1, 9, 7, NULL, 0, 0},
     {"canceller", WORD, 1, 7, 2, lupinenblatt_canceller_name, 2, 0},
     {"window-ran-out", FLAG, 0, 6, 1, NULL, 0, 0},
+    {"within", FLAG, 0, 5, 1, NULL, 0, 0},
     {"stamp", NUMBER, 3, 32, 32, NULL, 0, 1},
     {"start", NUMBER, 3, 0, 32, NULL, 0, 0},
     {"purpose", WORD, 1, 5, 2, lupinenblatt_purpose_name, 3, 0},

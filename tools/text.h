@@ -38,7 +38,7 @@ typedef struct {
     int always;        /* told also where it is 0 */
 } field;
 
-#define ROW_FIELDS 22
+#define ROW_FIELDS 23
 #define MESSAGE_FIELDS 8
 
 extern const field row_fields[ROW_FIELDS];
