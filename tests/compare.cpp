@@ -4,7 +4,7 @@
 //
 // Sequences of events over sound situations, with damaged slices between; neighbours exchanged as demand 3 allows; many events in one call;
 // the checks of soundness alone, and where something is unsound; the class that selection gives each provider; lines with two names (A3);
-// versions within one provider (A14); records; the 35 flows, and those of lines.
+// versions within one provider (A14); records; the 35 flows, and those of lines and of versions within one provider.
 // Sequence n of a seed is always the same, so a difference is replayed with its seed and its number.
 #include <cstdio>
 #include <cstring>
@@ -872,7 +872,7 @@ void runFlow(const std::filesystem::path &path) {
 
 void runFlows() {
     size_t flows = 0;
-    for (const char *folder : {"tests/vectors", "tests/vectors-lines"})
+    for (const char *folder : {"tests/vectors", "tests/vectors-lines", "tests/vectors-within"})
         for (const auto &entry : std::filesystem::directory_iterator(folder))
             if (entry.path().extension() == ".scn") runFlow(entry.path()), flows++;
     std::printf("%zu flows through the library\n", flows);
