@@ -1,5 +1,4 @@
-// The examples of docs/LAYOUTS.md, and a record and a row within one provider: the same bytes written down here, packed by layouts.hpp,
-// compared, and read back.
+// The examples of docs/LAYOUTS.md: the same bytes written down here, packed by layouts.hpp, compared, and read back.
 #include <cstdio>
 
 #include "scenario.hpp"
@@ -24,10 +23,10 @@ void record() {
     Bytes packed = packEvent(e);
     std::optional<Fields> back = readRecord(packed.data(), packed.size());
     example("record", packed, "01081000b4eed1942d3bb44c000000000002800000190000", back && *back == fieldsOf(e));
-    e.other = 2, e.within = 1;
+    e.sender = 1, e.within = 1;
     packed = packEvent(e);
     back = readRecord(packed.data(), packed.size());
-    example("record within", packed, "01082000b4eed1942d3bb44c000000000002800000192000", back && *back == fieldsOf(e));
+    example("record within", packed, "01041000b4eed1942d3bb44c000000000002800000192000", back && *back == fieldsOf(e));
 }
 
 void row() {
@@ -46,13 +45,13 @@ void row() {
 
 void rowWithin() {
     Version v;
-    v.tn = Tn{3035550100}, v.number = 1, v.newCreated = v.within = true, v.newProvider = v.oldProvider = 2, v.lrn = Lrn{3035550000};
-    v.newDue = 100, v.stamp = 104;
+    v.tn = Tn{3035550100}, v.number = 1, v.newCreated = v.within = true, v.newProvider = v.oldProvider = 1, v.lrn = Lrn{3035550000};
+    v.newDue = 100, v.stamp = 10;
     Bytes packed;
     packTable(Table{{v}, 0}, packed);
     std::optional<Table> back = unpackTable(packed.data(), packed.size());
     example("row within", packed,
-            "2d3bb465000041202d3bb44c02080000" "00000064000000000000006800000000" "00000000000000000000000000000000"
+            "2d3bb465000041202d3bb44c01040000" "00000064000000000000000a00000000" "00000000000000000000000000000000"
             "00000000000000000000000000000000" "00000000000000000000000000000000",
             back && sound(*back, Books()) && textOf(*back) == textOf(Table{{v}, 0}));
 }
