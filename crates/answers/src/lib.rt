@@ -1,4 +1,6 @@
 // How a broadcast hears a reply or a silence. Each promise is an equation with a definition of the model.
+#![tactic(auto)]
+
 pub mod retries;
 
 ghost use Rattle.std.specs.Prelude.{◌≡◌, true, false, ◌≤◌, ◌<◌, max};

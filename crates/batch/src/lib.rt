@@ -1,4 +1,6 @@
 // Many event records on one table: its soundness is checked once, and each event is then a step.
+#![tactic(auto)]
+
 ghost use Rattle.std.specs.Prelude.{◌≡◌, true, map, ◌+◌, ◌*◌, ◌/◌, ◌%◌, ◌≤◌, suc, length, drop};
 ghost use Rattle.providers.specs.Providers.{listed, entry_of};
 ghost use Rattle.scan.specs.Sound.{SoundTable};
@@ -16,7 +18,7 @@ use tray::MESSAGE_SIZE;
 
 // The outcome of the whole, how many events were done, and how many messages stand in the tray.
 #[repr(C)]
-#[derive(Drop)]
+#[derive(Clone, Copy)]
 pub struct Ran {
     pub outcome: u64,
     pub events: u64,
@@ -24,7 +26,7 @@ pub struct Ran {
 }
 
 // After an event: the used rows, and the messages so far.
-#[derive(Drop)]
+#[derive(Clone, Copy)]
 pub struct Turn {
     pub used: usize,
     pub messages: usize,

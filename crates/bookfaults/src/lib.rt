@@ -1,5 +1,7 @@
 // Where provider list and books are unsound: the first place that breaks a clause, and the first clause that it breaks. docs/FAULTS.md has
 // the numbers.
+#![tactic(auto)]
+
 ghost use Rattle.std.specs.Prelude.{◌≡◌};
 ghost use Rattle.faults.specs.Faults.{or_else};
 ghost use Rattle.bookfaults.specs.Clauses.{bytes_fault, books_fault};

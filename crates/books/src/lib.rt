@@ -1,4 +1,6 @@
 // The books as bytes, and what they say of codes and pairs. They are only read. [B6, D6]
+#![tactic(auto)]
+
 ghost use Rattle.std.specs.Prelude.{◌≡◌, length, true, ◌<◌};
 ghost use Rattle.model.specs.Numbers.{code_of};
 ghost use Rattle.model.specs.declared.Marks.{Marks};
@@ -63,7 +65,7 @@ pub fn partner(books: &[u8], code: u64) -> u64
 }
 
 // The names of a line: the smaller TN and the larger, or one TN twice where its code stands in no pair.
-#[derive(Drop)]
+#[derive(Clone, Copy)]
 pub struct Names {
     pub low: Tn,
     pub high: Tn,

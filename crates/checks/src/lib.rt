@@ -1,4 +1,6 @@
 // What is lent to a call, checked: before any event, and for those who only ask.
+#![tactic(auto)]
+
 ghost use Rattle.std.specs.Prelude.{◌≡◌, map};
 ghost use Rattle.providers.specs.Providers.{listed, entry_of};
 ghost use Rattle.scan.specs.Sound.{SoundTable, soundness_of};

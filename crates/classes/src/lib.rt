@@ -1,4 +1,6 @@
 // Each provider's class for a TN, as its number in a byte: for those who ask why a system was skipped. [A8.1]
+#![tactic(auto)]
+
 ghost use Rattle.std.specs.Prelude.{◌≡◌, ◌&&◌, eqb, length};
 ghost use Rattle.model.specs.Numbers.{ten_digits, last_provider};
 ghost use Rattle.model.specs.Selection.{class_number};

@@ -1,4 +1,6 @@
 // How a broadcast closes, and what its close makes old. Each promise is an equation with a definition of the model.
+#![tactic(auto)]
+
 ghost use Rattle.std.specs.Prelude.{◌≡◌, cond, eqb};
 ghost use Rattle.model.specs.Sound.{old};
 ghost use Rattle.model.specs.Closing.{open?, close_by, close_to, closed, retired, takes_over, settled};

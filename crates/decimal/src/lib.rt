@@ -1,4 +1,6 @@
 // Whole numbers as text: digits, the first of them not 0.
+#![tactic(auto)]
+
 ghost use Rattle.std.specs.Prelude.{◌≡◌};
 ghost use Rattle.decimal.specs.Decimal.{digit_of, longer_by, spelled};
 

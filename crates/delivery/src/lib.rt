@@ -1,4 +1,6 @@
 // The mail of a verdict put in the tray, run after run. Nothing else writes there.
+#![tactic(auto)]
+
 ghost use Rattle.std.specs.Prelude.{◌≡◌, [], ◌∷◌, ◌+◌, ◌≤◌, length};
 ghost use Rattle.model.specs.Basics.{All};
 ghost use Rattle.verdict.specs.Verdict.{to_soa, run_of, messages_of};

@@ -1,9 +1,11 @@
 // Where something is unsound: a clause's number, and the place that breaks it. docs/FAULTS.md has the numbers.
+#![tactic(auto)]
+
 ghost use Rattle.std.specs.Prelude.{◌≡◌, cond, ◌+◌};
 ghost use Rattle.faults.specs.Faults.{found_at, broken, at};
 
 // What one place breaks: a clause, 0 for none, and the place of another with which it breaks it, 0 for none.
-#[derive(Drop)]
+#[derive(Clone, Copy)]
 pub struct Found {
     pub clause: u64,
     pub second: u64,
@@ -11,7 +13,7 @@ pub struct Found {
 
 // The same with the place, from 1. All are 0 where nothing is at fault.
 #[repr(C)]
-#[derive(Drop)]
+#[derive(Clone, Copy)]
 pub struct Fault {
     pub clause: u64,
     pub place: u64,

@@ -1,4 +1,6 @@
 // The record and its eleven fields as numbers, both ways, for callers that have no structs. [E6]
+#![tactic(auto)]
+
 ghost use Rattle.std.specs.Prelude.{◌≡◌, length};
 ghost use Rattle.model.specs.Record.{fits_bits};
 ghost use Rattle.packing.specs.Layout.{eleven_of, read_event, Written};

@@ -1,4 +1,6 @@
 // The grid of standing and status: 9 statuses by 11 kinds by 3 standings. [G2, F3]
+#![tactic(auto)]
+
 ghost use Rattle.std.specs.Prelude.{◌≡◌, true, ◌<◌, ◌≤◌};
 ghost use Rattle.model.specs.Sound.{last_status};
 ghost use Rattle.model.specs.Standing.{grid_rule, grid_kinds, grid_place, is_grid_kind};

@@ -7,7 +7,7 @@ use model::limit;
 const PROVIDERS: u64 = limit::PROVIDERS as u64;
 
 // The entry as two numbers: a code and its owner, a provider and a code, two codes; of the provider list the byte.
-#[derive(Drop)]
+#[derive(Clone, Copy)]
 struct Entry {
     first: u64,
     last: u64,

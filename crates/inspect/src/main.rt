@@ -1,4 +1,6 @@
 // Says in words where a table, a provider list or books are unsound, or that they are sound. Thin over `unsound`, which finds it.
+#![tactic(auto)]
+
 mod entry;
 mod files;
 mod texts;

@@ -17,7 +17,7 @@ fn put_filled(b: u8, next: u64, last: u64) -> u64 {
 }
 
 // Where the writing of a text is: its line, and the number for the next '#'.
-#[derive(Drop)]
+#[derive(Clone, Copy)]
 pub struct At {
     line: u64,
     next: u64,

@@ -1,4 +1,6 @@
 // What an event gets: the tests of its kind in document 01's order.
+#![tactic(auto)]
+
 ghost use Rattle.std.specs.Prelude.{◌≡◌, true, false, cond, not, ◌&&◌, ◌||◌, [], ◌∷◌, ◌≤◌, eqb, ltb, leb};
 ghost use Rattle.model.specs.Sound.{last_status};
 ghost use Rattle.model.specs.Basics.{among, holds, is_none};

@@ -1,4 +1,6 @@
 // What a record's kind asks of its fields. [E2 to E5]
+#![tactic(auto)]
+
 ghost use Rattle.std.specs.Prelude.{◌≡◌};
 ghost use Rattle.model.specs.Numbers.{ten_digits};
 ghost use Rattle.model.specs.Record.{two_sides, authorizes as authorizes_with, new_creates, old_creates, new_modifies, old_modifies};

@@ -1,4 +1,6 @@
 // One step with the provider list lent as records. [B1, F7]
+#![tactic(auto)]
+
 ghost use Rattle.providers.specs.Providers.{listed};
 ghost use Rattle.engine.specs.Step.{Stepped};
 

@@ -1,6 +1,8 @@
 // Where the lines of a sound table are unsound: the first row that breaks a clause with a row before it of its line, and the first clause
 // that it breaks. docs/FAULTS.md has the numbers. It is asked where `lines` has said unsound, and goes over the rows before a row only
 // where the row stands under the larger name of its line. [A3.5]
+#![tactic(auto)]
+
 ghost use Rattle.std.specs.Prelude.{◌≡◌, true, [], ◌∷◌, ◌≤◌, ◌<◌, length};
 ghost use Rattle.faults.specs.Faults.{found_at, first_broken};
 ghost use Rattle.model.specs.Books.{line_in, sound_splits};

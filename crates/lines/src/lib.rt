@@ -1,5 +1,7 @@
 // Whether the rows of each line may stand together, where two TNs that differ only by the codes of a split pair name one line. Only the
 // first word of a row is read. [A3.5]
+#![tactic(auto)]
+
 ghost use Rattle.std.specs.Prelude.{◌≡◌, true, ◌+◌, ◌*◌, ◌≤◌, ◌<◌, length};
 ghost use Rattle.model.specs.Books.{under_code, line_in, sound_splits};
 ghost use Rattle.row.specs.Layout.{key_of};
@@ -20,7 +22,7 @@ use table::find;
 use words::ROW;
 
 // What of a version its line may have once: that it is live, that it is sending, that it is worked.
-#[derive(Drop)]
+#[derive(Clone, Copy)]
 pub struct Held {
     pub live: bool,
     pub sends: bool,

@@ -1,4 +1,6 @@
 // The calls for C: on bytes and numbers, each with a promise for every input. include/lupinenblatt.h tells them to C. [F4]
+#![tactic(auto)]
+
 ghost use Rattle.packing.specs.Layout.{read_event, Written};
 ghost use Rattle.fields.specs.Calls.{event, Handed};
 

@@ -1,14 +1,15 @@
 // The things that document 01 speaks of, as structs by value. Its rules are definitions over these very structs: specs/.
+#![tactic(auto)]
 
 // A telephone number, and a location routing number: ten digits each, never taken for one another. [N1, N2, F6]
-#[derive(Drop)]
+#[derive(Clone, Copy)]
 pub struct Tn(pub u64);
 
-#[derive(Drop)]
+#[derive(Clone, Copy)]
 pub struct Lrn(pub u64);
 
 // The fields of an event record. [E1]
-#[derive(Drop)]
+#[derive(Clone, Copy)]
 pub struct Event {
     pub kind: u8,
     pub sender: u8,
@@ -26,21 +27,21 @@ pub struct Event {
 }
 
 // What a record reads as. [E5]
-#[derive(Drop)]
+#[derive(Clone, Copy)]
 pub enum Reading {
     Record(Event),
     Malformed,
 }
 
 // A version's name.
-#[derive(Drop)]
+#[derive(Clone, Copy)]
 pub struct Id {
     pub tn: Tn,
     pub number: u16,
 }
 
 // The new side: its provider, whether it has created, and what it then has. [V2]
-#[derive(Drop)]
+#[derive(Clone, Copy)]
 pub struct NewSide {
     pub provider: u8,
     pub created: bool,
@@ -49,7 +50,7 @@ pub struct NewSide {
 }
 
 // The old side. Authorization: 0 none, 1 yes, 2 no. [V2]
-#[derive(Drop)]
+#[derive(Clone, Copy)]
 pub struct OldSide {
     pub provider: u8,
     pub created: bool,
@@ -59,7 +60,7 @@ pub struct OldSide {
 }
 
 // Retries used per system, three bits each: systems 1 to 21 in low, 22 to 42 in mid, 43 to 63 in high.
-#[derive(Drop)]
+#[derive(Clone, Copy)]
 pub struct Retries {
     pub low: u64,
     pub mid: u64,
@@ -67,7 +68,7 @@ pub struct Retries {
 }
 
 // A version's broadcast: purpose (0 none, 1 activate, 2 modify, 3 disconnect), start, and the systems' sets, provider n at bit n.
-#[derive(Drop)]
+#[derive(Clone, Copy)]
 pub struct Broadcast {
     pub purpose: u8,
     pub start: u32,
@@ -78,7 +79,7 @@ pub struct Broadcast {
 }
 
 // A subscription version. Canceller: 0 nobody, 1 the new side, 2 the old side. [V0]
-#[derive(Drop)]
+#[derive(Clone, Copy)]
 pub struct Version {
     pub id: Id,
     pub status: u8,
@@ -95,7 +96,7 @@ pub struct Version {
 }
 
 // A message: to a provider's Local SMS or else its SOA. [Y1]
-#[derive(Drop)]
+#[derive(Clone, Copy)]
 pub struct Message {
     pub local: bool,
     pub provider: u8,
@@ -108,21 +109,21 @@ pub struct Message {
 
 // A provider's two marks, as the provider list lends them. [B1, F7]
 #[repr(C)]
-#[derive(Drop)]
+#[derive(Clone, Copy)]
 pub struct Provider {
     pub present: bool,
     pub local: bool,
 }
 
 // The two marks of all providers, as sets.
-#[derive(Drop)]
+#[derive(Clone, Copy)]
 pub struct Marks {
     pub present: u64,
     pub local: u64,
 }
 
 // What an event gets. The numbers are those of `number_of`: 15 to 17 are none.
-#[derive(Drop)]
+#[derive(Clone, Copy)]
 pub enum Outcome {
     Done,
     Unsound,
@@ -143,7 +144,7 @@ pub enum Outcome {
 }
 
 // What selection says of a provider, and why it is not asked. The numbers are those of `class_number`. [A8.1]
-#[derive(Drop)]
+#[derive(Clone, Copy)]
 pub enum Class {
     Selected,
     NotPresent,

@@ -1,4 +1,6 @@
 // Big-endian words in a slice of bytes, at an offset.
+#![tactic(auto)]
+
 ghost use Rattle.std.specs.Prelude.{◌≡◌, ◌+◌, ◌%◌, ◌≤◌, ◌<◌, length};
 ghost use Rattle.octets.specs.Octets.{be, le, turned, put};
 

@@ -1,4 +1,6 @@
 // How a broadcast opens: its purpose, whom it asks, and what it keeps. Each promise is an equation with a definition of the model.
+#![tactic(auto)]
+
 ghost use Rattle.std.specs.Prelude.{◌≡◌, cond};
 ghost use Rattle.model.specs.Record.{is_broadcast};
 ghost use Rattle.model.specs.Broadcast.{resends, new_for, asked_for, purpose_for, opened};

@@ -1,4 +1,6 @@
 // Outcomes as the paper's numbers, and what an event is answered. [H7]
+#![tactic(auto)]
+
 ghost use Rattle.std.specs.Prelude.{◌≡◌, ◌+◌, ◌*◌, ◌<◌, ◌≤◌, length};
 ghost use Rattle.model.specs.Outcomes.{number_of};
 ghost use Rattle.outcomes.specs.Answered.{answer_of, noted};
@@ -7,7 +9,7 @@ use model::Outcome;
 
 // The paper's number of the outcome, and how many messages stand in the tray.
 #[repr(C)]
-#[derive(Drop)]
+#[derive(Clone, Copy)]
 pub struct Answer {
     pub outcome: u64,
     pub count: u64,

@@ -1,11 +1,13 @@
 // A record's fields in three words of 64 bits; the time runs from the second into the third.
+#![tactic(auto)]
+
 ghost use Rattle.std.specs.Prelude.{◌≡◌, [], ◌∷◌, ◌%◌, ◌^◌, ◌<◌};
 ghost use Rattle.octets.specs.Fields.{join};
 ghost use Rattle.packing.specs.InWords.{third_widths, event_of_words, Fitted, Packed};
 
 use model::{Event, Lrn, Tn};
 
-#[derive(Drop)]
+#[derive(Clone, Copy)]
 pub struct RecordWords {
     pub first: u64,
     pub second: u64,

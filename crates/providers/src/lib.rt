@@ -1,4 +1,6 @@
 // The provider list, lent as records or as bytes, made two sets: who is present, and who runs a Local SMS. [B1, F7]
+#![tactic(auto)]
+
 ghost use Rattle.std.specs.Prelude.{◌≡◌, map, ◌<◌};
 ghost use Rattle.model.specs.Books.{sound_marks};
 ghost use Rattle.providers.specs.Providers.{listed, entry_of};
@@ -10,7 +12,7 @@ use model::{Marks, Provider, limit};
 const PROVIDERS: usize = limit::PROVIDERS as usize;
 
 // Whether the list is sound, and its marks as sets; an unsound list's are empty.
-#[derive(Drop)]
+#[derive(Clone, Copy)]
 pub struct Listed {
     pub sound: bool,
     pub marks: Marks,

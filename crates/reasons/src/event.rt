@@ -74,7 +74,7 @@ pub fn alone() -> Question {
 }
 
 // Where the reading of a file stands: so many records are to be read past still, and the last turn got so many bytes.
-#[derive(Drop)]
+#[derive(Clone, Copy)]
 struct Stand {
     left: u64,
     got: usize,

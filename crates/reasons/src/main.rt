@@ -1,4 +1,6 @@
 // Says of each provider whether a broadcast for a TN asks its Local SMS, and if not, why. Thin over `classes`, which decides.
+#![tactic(auto)]
+
 mod event;
 mod files;
 mod question;

@@ -14,7 +14,7 @@ pub const EVENTS: usize = 4;
 const PLACE: usize = 5;
 
 // A TN alone, with kind and version 0, or an event's.
-#[derive(Drop)]
+#[derive(Clone, Copy)]
 pub struct Question {
     pub asked: bool,
     pub kind: u8,

@@ -1,4 +1,6 @@
 // The event record: 24 bytes and its fields, both ways. [E1 to E6]
+#![tactic(auto)]
+
 ghost use Rattle.std.specs.Prelude.{◌≡◌};
 ghost use Rattle.packing.specs.Layout.{read_event, Written};
 

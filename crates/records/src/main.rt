@@ -1,4 +1,6 @@
 // Reads, writes and refuses the records of tests/record_vectors.py, a line for each: what it prints is held to that encoder's own answers.
+#![tactic(auto)]
+
 use fields::FIELDS;
 use libc::{STDIN_FILENO, STDOUT_FILENO};
 use model::{Event, Lrn, Reading, Tn};

@@ -21,7 +21,7 @@ const MOST_EVENTS: u64 = 18_446_744_073_709_551_615;
 const MOST_SHARED: u64 = 184_467_440_737_095_516;
 
 // The events, how many there are (0: not known), and what is written while they are replayed.
-#[derive(Drop)]
+#[derive(Clone, Copy)]
 pub struct Streams {
     pub input: i32,
     pub whole: u64,

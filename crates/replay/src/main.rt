@@ -1,5 +1,7 @@
 // Replays a file of event records on a table, with a provider list, books and R, and writes outcomes, messages and the table after them.
 // Thin over the engine: all that decides is `batch::run`, which is `engine::step` again and again.
+#![tactic(auto)]
+
 mod events;
 mod files;
 mod names;

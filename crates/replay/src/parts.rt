@@ -5,7 +5,7 @@ use crate::names::{AFTER, MESSAGES, OUTCOMES};
 use libc::{STDERR_FILENO, STDOUT_FILENO};
 
 // The descriptors of the parts that this run has made; less than 0 where one is not made.
-#[derive(Drop)]
+#[derive(Clone, Copy)]
 pub struct Outputs {
     pub outcomes: i32,
     pub messages: i32,

@@ -1,4 +1,6 @@
 // A version's fields in the bits of ten words, both ways.
+#![tactic(auto)]
+
 ghost use Rattle.std.specs.Prelude.{◌≡◌, [], ◌∷◌, ◌<◌};
 ghost use Rattle.octets.specs.Fields.{join};
 ghost use Rattle.row.specs.Layout.{head_widths, term_widths, pair_widths, flag, id_of, new_of, old_of, cast_of, version_of, spareless};

@@ -1,4 +1,6 @@
 // Rows of the table, by their place: read, written, put in between, taken out. Nothing is asked of the table but its length.
+#![tactic(auto)]
+
 ghost use Rattle.std.specs.Prelude.{◌≡◌, ◌+◌, ◌*◌, ◌≤◌, ◌<◌, length};
 ghost use Rattle.words.specs.Size.{ROW};
 ghost use Rattle.words.specs.Codec.{words_in, bytes_of, blank};

@@ -1,4 +1,6 @@
 // The rules: what an event is answered, decided from the facts of its number. No table and no tray is seen here.
+#![tactic(auto)]
+
 pub mod accepted;
 pub mod told;
 
@@ -15,7 +17,7 @@ use verdict::{Mail, Rows, Verdict};
 
 // What the books and the table say beside the versions: R, whether sender or other is not present, the owner of a create's code, whether a
 // row is free, and whom a broadcast asks.
-#[derive(Drop)]
+#[derive(Clone, Copy)]
 pub struct Known {
     pub most: u8,
     pub absent: bool,

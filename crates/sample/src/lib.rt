@@ -1,4 +1,6 @@
 // The provider list of document 01's example: held as three records, and lent to a step as a list. [Z1, F7]
+#![tactic(auto)]
+
 ghost use Rattle.std.specs.Prelude.{◌≡◌};
 ghost use Rattle.providers.specs.Providers.{listed};
 ghost use Rattle.engine.specs.Step.{Stepped};

@@ -8,7 +8,7 @@ ghost use Rattle.scan.specs.Carried.{bits_of, group_of, joined_by, Few};
 use model::{Tn, Version, status};
 
 // The last version's place in the order, and whether a version of its number is live, sending, worked.
-#[derive(Drop)]
+#[derive(Clone, Copy)]
 pub struct Group {
     pub last: u64,
     pub live: bool,
@@ -16,20 +16,20 @@ pub struct Group {
     pub worked: bool,
 }
 
-#[derive(Drop)]
+#[derive(Clone, Copy)]
 pub enum Joined {
     No,
     Yes(Group),
 }
 
 // The same in two words: what the number has as bits.
-#[derive(Drop)]
+#[derive(Clone, Copy)]
 pub struct Bits {
     pub last: u64,
     pub had: u64,
 }
 
-#[derive(Drop)]
+#[derive(Clone, Copy)]
 pub enum Next {
     Stop,
     Go(Bits),

@@ -1,4 +1,6 @@
 // The soundness of a table: each row by itself, the order of the used ones, and nothing but zeros after them. One pass.
+#![tactic(auto)]
+
 ghost use Rattle.std.specs.Prelude.{◌≡◌, ◌+◌, ◌*◌, ◌≤◌, ◌<◌, length, drop};
 ghost use Rattle.model.specs.Sound.{most_rows};
 ghost use Rattle.words.specs.Size.{ROW};
@@ -16,7 +18,7 @@ use words::{ROW, Words};
 pub mod join;
 
 // What the rows so far say: unsound; all used, so many, the last of this group; or some used and then free ones.
-#[derive(Drop)]
+#[derive(Clone, Copy)]
 pub enum Scan {
     Bad,
     Open { used: usize, group: Group },
@@ -24,7 +26,7 @@ pub enum Scan {
 }
 
 // What a whole table is.
-#[derive(Drop)]
+#[derive(Clone, Copy)]
 pub enum Soundness {
     Unsound,
     Sound { used: usize },

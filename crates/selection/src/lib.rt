@@ -1,4 +1,6 @@
 // What selection says of each provider, and so which systems a broadcast asks. Nobody else reads the filters. [D5, D6, F2, A2.1, A8.1]
+#![tactic(auto)]
+
 ghost use Rattle.std.specs.Prelude.{◌≡◌, true, ◌+◌, ◌<◌, length};
 ghost use Rattle.books.specs.Packed.{book_bytes, row_places, filter_place, decode_books, sound_bytes};
 ghost use Rattle.selection.specs.Pass.{smaller_of, larger_of, comes_before, most_looks, Passed};
@@ -10,7 +12,7 @@ use model::{Class, Marks, limit};
 const CODES: u64 = 1048576;
 
 // A look at the filter list: what stands at the place, and how many looks there have been with this one.
-#[derive(Drop)]
+#[derive(Clone, Copy)]
 struct Look {
     place: u64,
     looks: u64,
@@ -55,7 +57,7 @@ fn larger(code: u64, partner: u64) -> u64
 }
 
 // The set of the selected, whether the code stands in a pair, and how often the filter list was looked at.
-#[derive(Drop)]
+#[derive(Clone, Copy)]
 struct Pass {
     selected: u64,
     paired: bool,
@@ -118,7 +120,7 @@ fn one_pass(marks: Marks, books: &[u8], code: u64) -> Pass
 
 // Selection's answer for a code: the set of those of class selected, and what tells the classes of the others apart. A provider that runs a
 // Local SMS and is not selected has a filter on the only code, or on both codes where there is a pair.
-#[derive(Drop)]
+#[derive(Clone, Copy)]
 pub struct Classes {
     pub selected: u64,
     pub marks: Marks,

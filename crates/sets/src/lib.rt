@@ -1,4 +1,6 @@
 // What the sets of a broadcast and its retries have: sets of providers, apart from one another, and retries of waiting systems alone.
+#![tactic(auto)]
+
 ghost use Rattle.std.specs.Prelude.{◌≡◌, ◌<◌};
 ghost use Rattle.model.specs.Numbers.{is_set};
 ghost use Rattle.model.specs.Sound.{apart, sets_apart, retries_in_range, retries_fit};

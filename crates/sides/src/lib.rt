@@ -1,4 +1,6 @@
 // Creates, modifies, cancel, resolve, window: what they make of a version. Each promise is an equation with a definition of the model.
+#![tactic(auto)]
+
 ghost use Rattle.std.specs.Prelude.{◌≡◌, cond, ◌<◌, eqb};
 ghost use Rattle.model.specs.Creates.{new_joined, old_joined, new_absent, old_absent, new_in, old_in, by_new, new_from, old_from, status_by};
 ghost use Rattle.model.specs.Creates.{no_broadcast, fresh_numbered, fits, first_due, agrees, concurred};

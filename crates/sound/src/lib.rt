@@ -1,4 +1,6 @@
 // Whether a version is sound: each clause of document 01, or some together, as a function that answers exactly the model's definition.
+#![tactic(auto)]
+
 ghost use Rattle.std.specs.Prelude.{◌≡◌};
 ghost use Rattle.model.specs.Sound.{sound_version};
 ghost use Rattle.sound.specs.Order.{shape_fits};

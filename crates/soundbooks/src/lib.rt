@@ -1,4 +1,6 @@
 // Whether bytes are sound books: one pass over each list of places. [B1, B2, B3, B4]
+#![tactic(auto)]
+
 ghost use Rattle.std.specs.Prelude.{◌≡◌, ◌+◌, ◌*◌, ◌≤◌, eqb, length};
 ghost use Rattle.books.specs.Packed.{book_bytes, row_places, split_places, place_of, head_of, split_place, sound_bytes};
 ghost use Rattle.books.specs.Places.{rest_of};

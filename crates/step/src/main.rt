@@ -1,5 +1,7 @@
 // The step program of document 01: R = 0, an empty table of 256 rows, providers 1 to 3 with Local SMSs, code 303555 owned by 1, and the
 // filter (3, 303555). Event records from standard input; a line for each, then a line for each version. [Z1]
+#![tactic(auto)]
+
 use libc::{STDIN_FILENO, STDOUT_FILENO};
 use model::{Provider, Version, limit};
 use record::RECORD;

@@ -1,4 +1,6 @@
 // Sets of providers 1 to 63 in a u64: provider p is bit p. Place 0, the NPAC's number, is no provider's.
+#![tactic(auto)]
+
 ghost use Rattle.std.specs.Prelude.{◌≡◌, ◌+◌, ◌-◌, ◌^◌, ◌<◌, true, false};
 ghost use Rattle.systems.specs.Set.{member, count, meet};
 

@@ -67,7 +67,7 @@ fn behind(t: &[u8], n: usize, tn: Tn, i: usize) -> usize
 }
 
 // Where the versions of a number are: the first, and the place behind the last.
-#[derive(Drop)]
+#[derive(Clone, Copy)]
 pub struct Span {
     pub from: usize,
     pub to: usize,

@@ -12,7 +12,7 @@ use model::{Tn, Version, status};
 use scan::join;
 
 // A version, with its place.
-#[derive(Drop)]
+#[derive(Clone, Copy)]
 pub enum Seen {
     Nobody,
     One(usize, Version),
@@ -21,7 +21,7 @@ pub enum Seen {
 // Of the versions of a line: the newest number, the largest stamp, whether one is sending. For a create the live one and the worked one.
 // For any other kind the one that is asked for, and of those but this one whether one is sending, which blocks a broadcast, and the live
 // one, which the asked one makes a former.
-#[derive(Drop)]
+#[derive(Clone, Copy)]
 pub struct Facts {
     pub newest: u16,
     pub stamp: u32,
@@ -64,7 +64,7 @@ fn look(t: &[u8], n: usize, i: usize) -> Seen
 }
 
 // The facts of the versions seen so far, each version by its place; n where there is none.
-#[derive(Drop)]
+#[derive(Clone, Copy)]
 struct Pass {
     newest: u16,
     stamp: u32,

@@ -1,5 +1,7 @@
 // Where a table is unsound: the first row that breaks a clause, and the first clause that it breaks. docs/FAULTS.md has the numbers. It is
 // asked where the scan has said unsound, and goes for each row over those before it.
+#![tactic(auto)]
+
 ghost use Rattle.std.specs.Prelude.{◌≡◌, ◌+◌, ◌*◌, ◌/◌, ◌≤◌, length};
 ghost use Rattle.faults.specs.Faults.{found_at, first_broken, first_fault};
 ghost use Rattle.words.specs.Size.{ROW};

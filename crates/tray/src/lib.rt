@@ -1,4 +1,6 @@
 // The tray: messages as bytes, place after place. [Y1, Y8]
+#![tactic(auto)]
+
 ghost use Rattle.std.specs.Prelude.{◌≡◌, cond, ◌+◌, ◌*◌, ◌<◌, ◌≤◌, length};
 ghost use Rattle.model.specs.Basics.{All};
 ghost use Rattle.model.specs.Tray.{members};

@@ -1,4 +1,6 @@
 // Where what is lent is unsound: for those whose step was answered 1. docs/FAULTS.md has the numbers.
+#![tactic(auto)]
+
 ghost use Rattle.std.specs.Prelude.{◌≡◌};
 ghost use Rattle.bookfaults.specs.Clauses.{books_fault};
 ghost use Rattle.scan.specs.Sound.{SoundTable};

@@ -1,4 +1,6 @@
 // Ten words in a slice of ROW bytes.
+#![tactic(auto)]
+
 ghost use Rattle.std.specs.Prelude.{◌≡◌, [], ◌∷◌, ◌+◌, ◌≤◌, length};
 ghost use Rattle.words.specs.Size.{ROW};
 ghost use Rattle.words.specs.Codec.{words_in, bytes_of, stored, is_blank, no_words};
@@ -7,7 +9,7 @@ ghost use Rattle.words.specs.Codec.{words_in, bytes_of, stored, is_blank, no_wor
 pub const ROW: usize = 80;
 
 // The ten words of a row, every bit kept.
-#[derive(Drop)]
+#[derive(Clone, Copy)]
 pub struct Words {
     // TN, number, status, live, new side created, old side created, window run out.
     pub head: u64,
