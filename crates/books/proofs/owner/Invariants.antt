@@ -1,0 +1,18 @@
+-- `books::owner` meets its contract. The loop's invariant: the codes that are left decide.
+-- Assumes nothing.
+use borrow.Author.Rules.{rules}
+use Prim.Native.Nat.{◌-◌}
+use mathlib.Core.Path.{◌≡◌, refl, sym, ap, ◌∙◌}
+use Rattle.model.specs.Books.{owner_of}
+use Rattle.books.specs.Packed.{code_place, row_places}
+use Rattle.books.specs.Places.{rest_of}
+use Rattle.books.proofs.Places.{used_end}
+use Rattle.books.specs.Search.{owner_by}
+use Rattle.books.proofs.Search.{owner_here, owner_next}
+use Rattle.books.proofs.owner.Given as goal
+
+abbrev pub invariant-loop-i : goal.invariant-loop-i
+invariant-loop-i l = owner_by l.code (rest_of (code_place l.books) row_places 0) ≡ owner_by l.code (rest_of (code_place l.books) row_places l.i)
+
+abbrev pub decreases-loop-i : goal.decreases-loop-i
+decreases-loop-i l = row_places - l.i

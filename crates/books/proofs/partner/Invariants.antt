@@ -1,0 +1,19 @@
+-- `books::partner` meets its contract. The loop's invariant: the pairs that are left decide.
+-- Assumes nothing.
+use borrow.Author.Rules.{rules}
+use Prim.Native.Nat.{◌-◌}
+use mathlib.Core.Path.{◌≡◌, refl, sym, ap, ◌∙◌}
+use Rattle.model.specs.Books.{partner_of}
+use Rattle.books.specs.Packed.{split_place, split_places}
+use Rattle.books.specs.Places.{rest_of}
+use Rattle.books.proofs.Places.{used_end}
+use Rattle.books.specs.Search.{partner_by}
+use Rattle.books.proofs.Search.{partner_one, partner_other, partner_next}
+use Rattle.books.proofs.partner.Given as goal
+
+abbrev pub invariant-loop-i : goal.invariant-loop-i
+invariant-loop-i l = partner_by l.code (rest_of (split_place l.books) split_places 0)
+    ≡ partner_by l.code (rest_of (split_place l.books) split_places l.i)
+
+abbrev pub decreases-loop-i : goal.decreases-loop-i
+decreases-loop-i l = split_places - l.i

@@ -1,0 +1,6 @@
+-- `closing::takes_over` meets its contract. Assumes nothing.
+use borrow.Author.Rules.{rules}
+use Rattle.closing.proofs.takes_over.Goals as goal
+
+pub returns : goal.returns
+returns c = rw c.closed.ensures

@@ -1,0 +1,6 @@
+-- `faults::unless` meets its contract. Assumes nothing.
+use borrow.Author.Rules.{rules}
+use Rattle.faults.proofs.unless.Goals as goal
+
+pub returns : goal.returns
+returns c = rw c.if-holds.false

@@ -1,0 +1,6 @@
+-- `kinds::modifies_active` meets its contract. Assumes nothing.
+use borrow.Author.Rules.{rules}
+use Rattle.kinds.proofs.modifies_active.Goals as goal
+
+pub returns : goal.returns
+returns c = rw c.is_lrn.ensures

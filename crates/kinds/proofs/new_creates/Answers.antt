@@ -1,0 +1,6 @@
+-- `kinds::new_creates` meets its contract. Assumes nothing.
+use borrow.Author.Rules.{rules}
+use Rattle.kinds.proofs.new_creates.Goals as goal
+
+pub returns : goal.returns
+returns c = rw (c.sides_named.ensures, c.is_lrn.ensures)

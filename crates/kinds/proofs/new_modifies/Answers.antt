@@ -1,0 +1,6 @@
+-- `kinds::new_modifies` meets its contract. Assumes nothing.
+use borrow.Author.Rules.{rules}
+use Rattle.kinds.proofs.new_modifies.Goals as goal
+
+pub returns : goal.returns
+returns c = rw c.is_lrn.ensures

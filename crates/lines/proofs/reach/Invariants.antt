@@ -1,0 +1,16 @@
+-- `lines::reach` meets its contract: the place is not before `at`. Assumes nothing.
+use Prim.Native.Nat.{◌+◌, ◌-◌, ◌*◌, ◌≤◌, ◌<◌}
+use native.Mathlib.Omega.{arith}
+use lib.ListN.{length}
+use Rattle.rows.specs.Table.{decode}
+use Rattle.table.specs.Find.{place_in}
+use Rattle.lines.proofs.Heads.{tells}
+use Rattle.lines.proofs.Passes.{listed, number_at}
+use Rattle.lines.proofs.Abreast.{reach_out, reach_here, reach_on}
+use Rattle.lines.proofs.reach.Given as goal
+
+abbrev pub invariant-loop-at : goal.invariant-loop-at
+invariant-loop-at l = l.at ≤ place_in (l.tn.0 * 65536 + 0) (decode l.t)
+
+abbrev pub decreases-loop-at : goal.decreases-loop-at
+decreases-loop-at l = l.n - l.at

@@ -1,0 +1,77 @@
+-- `lines::spared` meets its contract. The loop's invariant: the rows from i on decide. Assumes nothing.
+use Prim.Native.Nat.{◌+◌, ◌-◌, ◌*◌, ◌/◌, ◌≤◌}
+use mathlib.Core.Path.{◌≡◌, sym, ◌∙◌}
+use native.Mathlib.Omega.{arith}
+use lib.ListN.{drop}
+use Rattle.rows.specs.Table.{decode}
+use Rattle.table.specs.Find.{place_in}
+use Rattle.lines.specs.Pairs.{spares}
+use Rattle.lines.proofs.Heads.{tells}
+use Rattle.lines.proofs.Passes.{listed, spare_bare, spare_start, spare_out, spare_past, spare_fails, spare_on}
+use Rattle.lines.proofs.spared.Goals as goal
+
+pub has_none-requires : goal.has_none-requires
+has_none-requires c = tt
+
+pub returns-then-has_none : goal.returns-then-has_none
+returns-then-has_none c =
+    let a = c.args in
+    sym (spare_bare a.tn.0 a.h (decode a.t.now) (sym c.has_none.ensures ∙ c.if-has_none.true))
+
+pub loop-i-init : goal.loop-i-init
+loop-i-init c =
+    let a = c.args in
+    (omega (arith, c.requires.at_value), spare_start a.tn.0 a.h (decode a.t.now) a.at c.requires.at_value)
+
+pub head-w-requires : goal.head-w-requires
+head-w-requires c =
+    omega (arith, c.requires.sound_table.whole, c.requires.sound_table.room, c.loop-i-test.true)
+
+pub returns-then-w-tn : goal.returns-then-w-tn
+returns-then-w-tn c =
+    let l = c.loop-i in
+    let a = c.args in
+    let w = c.head-w in
+    let h = c.loop-i-test.true in
+    let g = tells a.t.now a.n l.i w.result c.requires.sound_table h w.ensures (omega arith) in
+    sym (spare_past a.tn.0 a.h (decode a.t.now) (listed a.t.now a.n c.requires.sound_table) l.i l.invariant.1
+    (omega (arith, c.requires.sound_table.count, h)) l.invariant.0 (w.result / 1073741824) g.tn c.if-w-tn.true)
+
+pub held_of-requires : goal.held_of-requires
+held_of-requires c = tt
+
+pub meets-requires : goal.meets-requires
+meets-requires c = tt
+
+pub returns-then-meets : goal.returns-then-meets
+returns-then-meets c =
+    let l = c.loop-i in
+    let a = c.args in
+    let w = c.head-w in
+    let h = c.loop-i-test.true in
+    let g = tells a.t.now a.n l.i w.result c.requires.sound_table h w.ensures (omega arith) in
+    sym (spare_fails a.tn.0 a.h (decode a.t.now) (listed a.t.now a.n c.requires.sound_table) l.i l.invariant.1
+    (omega (arith, c.requires.sound_table.count, h)) (w.result / 1073741824) g.tn c.if-w-tn.false
+    c.held_of.result (c.held_of.ensures ∙ g.held) c.meets.result
+    c.meets.ensures c.if-meets.true)
+
+pub loop-i-preserved : goal.loop-i-preserved
+loop-i-preserved c =
+    let l = c.loop-i in
+    let a = c.args in
+    let w = c.head-w in
+    let h = c.loop-i-test.true in
+    let g = tells a.t.now a.n l.i w.result c.requires.sound_table h w.ensures (omega arith) in (
+      omega (arith, l.invariant.0),
+      spare_on a.tn.0 a.h (decode a.t.now) (listed a.t.now a.n c.requires.sound_table) l.i l.invariant.1
+          (omega (arith, c.requires.sound_table.count, h)) (w.result / 1073741824) g.tn c.if-w-tn.false
+          c.held_of.result (c.held_of.ensures ∙ g.held) c.meets.result
+          c.meets.ensures c.if-meets.false,
+    )
+
+pub returns : goal.returns
+returns c =
+    let l = c.loop-i in
+    let a = c.args in
+    sym (spare_out a.tn.0 a.h (decode a.t.now) (listed a.t.now a.n c.requires.sound_table) l.i l.invariant.1
+    (omega (arith, c.requires.sound_table.count, c.loop-i-test.false)))

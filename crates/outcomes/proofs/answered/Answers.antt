@@ -1,0 +1,6 @@
+-- `outcomes::answered` meets its contract. Assumes nothing.
+use borrow.Author.Rules.{rules}
+use Rattle.outcomes.proofs.answered.Goals as goal
+
+pub returns : goal.returns
+returns c = rw c.number.ensures

@@ -1,0 +1,28 @@
+-- `scan::ended` meets its contract: the rest of the rows decides what all after the used ones do. Assumes nothing.
+use mathlib.Core.Path.{◌≡◌, refl, sym, ◌∙◌}
+use Prim.Native.Nat.{◌-◌}
+use native.Mathlib.Omega.{arith}
+use borrow.Author.Tests.{not-true, not-false}
+use lib.ListN.{drop}
+use Rattle.scan.specs.declared.Scan.TheVariants.{Ended}
+use Rattle.rows.specs.Table.{pieces_of}
+use Rattle.scan.specs.Sound.{scan_rows}
+use Rattle.scan.proofs.Scans.{scan_done, ended_next, ended_bad}
+use Rattle.scan.proofs.ended.Goals as goal
+
+pub returns-then-not-free : goal.returns-then-not-free
+returns-then-not-free c =
+    let a = c.args in
+    ended_bad a.t.now c.loop-i.i c.loop-i-test.true a.used
+    (sym c.free.ensures ∙ not-true c.free.result c.if-not-free.true) ∙ c.loop-i.invariant
+
+pub loop-i-preserved : goal.loop-i-preserved
+loop-i-preserved c =
+    let a = c.args in
+    ended_next a.t.now c.loop-i.i c.loop-i-test.true a.used
+    (sym c.free.ensures ∙ not-false c.free.result c.if-not-free.false) ∙ c.loop-i.invariant
+
+pub returns : goal.returns
+returns c =
+    let a = c.args in
+    sym (scan_done a.t.now c.loop-i.i (Ended a.used) c.loop-i-test.false) ∙ c.loop-i.invariant

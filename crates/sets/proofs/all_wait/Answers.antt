@@ -1,0 +1,33 @@
+-- `cast::all_wait` meets its contract. Assumes nothing.
+use mathlib.Core.Path.{sym, ◌∙◌}
+use borrow.Author.Tests.{not-true, not-false}
+use Rattle.sets.proofs.Waiting.{three-words}
+use borrow.Author.Rules.{rules}
+use Rattle.sets.proofs.digits_wait.Reads as digits_wait_reads
+use Rattle.sets.proofs.all_wait.Goals as goal
+
+pub returns-then-not-digits_wait : goal.returns-then-not-digits_wait
+returns-then-not-digits_wait c =
+    sym (three-words c.args.c
+    ∙ rw (sym c.digits_wait.ensures ∙ not-true c.digits_wait.result c.if-not-digits_wait.true))
+
+pub returns-then-not-digits_wait-2 : goal.returns-then-not-digits_wait-2
+returns-then-not-digits_wait-2 c =
+    sym (three-words c.args.c
+    ∙ rw (
+      (sym c.digits_wait.ensures
+          ∙ not-false c.digits_wait.result c.if-not-digits_wait.false),
+      (sym c.digits_wait-2.ensures ∙ not-true c.digits_wait-2.result c.if-not-digits_wait-2.true),
+    ))
+
+pub returns : goal.returns
+returns c =
+    c.digits_wait-3.ensures
+    ∙ sym (three-words c.args.c
+    ∙ rw (
+      (sym c.digits_wait.ensures
+          ∙ not-false c.digits_wait.result
+          c.if-not-digits_wait.false),
+      (sym c.digits_wait-2.ensures ∙ not-false c.digits_wait-2.result
+          c.if-not-digits_wait-2.false),
+    ))

@@ -1,0 +1,6 @@
+-- `sides::agrees` meets its contract. Assumes nothing.
+use borrow.Author.Rules.{rules}
+use Rattle.sides.proofs.agrees.Goals as goal
+
+pub returns : goal.returns
+returns c = rw c.first_due.ensures

@@ -1,0 +1,44 @@
+-- `cast::cast_fits` meets its contract. Assumes nothing.
+use mathlib.Core.Path.{sym, ◌∙◌}
+use borrow.Author.Tests.{not-true, not-false}
+use Rattle.sound.specs.Order.{cast_fits}
+use borrow.Author.Rules.{rules}
+use Rattle.sound.proofs.cast.cast_fits.Goals as goal
+
+pub returns-then-not-times_fit : goal.returns-then-not-times_fit
+unfolding cast_fits
+returns-then-not-times_fit c = rw (sym c.times_fit.ensures ∙ not-true c.times_fit.result c.if-not-times_fit.true)
+
+pub returns-then-not-sets_fit : goal.returns-then-not-sets_fit
+unfolding cast_fits
+returns-then-not-sets_fit c =
+    rw (
+      sym c.times_fit.ensures ∙ not-false c.times_fit.result
+          c.if-not-times_fit.false,
+      sym c.sets_fit.ensures ∙ not-true c.sets_fit.result c.if-not-sets_fit.true,
+    )
+
+pub returns-then-not-live_confirmed : goal.returns-then-not-live_confirmed
+unfolding cast_fits
+returns-then-not-live_confirmed c =
+    rw (
+      sym c.times_fit.ensures
+          ∙ not-false c.times_fit.result c.if-not-times_fit.false,
+      sym c.sets_fit.ensures
+          ∙ not-false c.sets_fit.result c.if-not-sets_fit.false,
+      sym c.live_confirmed.ensures
+          ∙ not-true c.live_confirmed.result c.if-not-live_confirmed.true,
+    )
+
+pub returns : goal.returns
+unfolding cast_fits
+returns c =
+    rw (
+      sym c.times_fit.ensures
+          ∙ not-false c.times_fit.result
+          c.if-not-times_fit.false,
+      sym c.sets_fit.ensures
+          ∙ not-false c.sets_fit.result c.if-not-sets_fit.false,
+      sym c.live_confirmed.ensures ∙ not-false c.live_confirmed.result c.if-not-live_confirmed.false,
+    )
+    c.retries_sound.ensures

@@ -1,0 +1,6 @@
+-- `cast::start_fits` meets its contract. Assumes nothing.
+use Rattle.sound.proofs.Choices.{beq_iff}
+use Rattle.sound.proofs.cast.start_fits.Goals as goal
+
+pub returns : goal.returns
+returns c = rw beq_iff

@@ -1,0 +1,18 @@
+-- `soundbooks::sound_splits` meets its contract. The loop's invariant: the places that are left decide.
+-- Assumes nothing.
+use borrow.Author.Rules.{rules}
+use Prim.Native.Nat.{◌-◌}
+use mathlib.Core.Path.{◌≡◌, refl, sym, ◌∙◌}
+use borrow.Author.Tests.{not-true, not-false}
+use Rattle.books.specs.Packed.{split_place, split_places}
+use Rattle.soundbooks.specs.Scan.{scan}
+use Rattle.soundbooks.proofs.Scanning.{scan_free, scan_bad, scan_end}
+use Rattle.soundbooks.specs.Sound.{split_test}
+use Rattle.soundbooks.proofs.Soundness.{split_next}
+use Rattle.soundbooks.proofs.sound_splits.Given as goal
+
+abbrev pub invariant-loop-i : goal.invariant-loop-i
+invariant-loop-i l = scan split_test (split_place l.books) split_places 0 0 ≡ scan split_test (split_place l.books) (split_places - l.i) l.i 0
+
+abbrev pub decreases-loop-i : goal.decreases-loop-i
+decreases-loop-i l = split_places - l.i

@@ -1,0 +1,6 @@
+-- `above::form` meets its contract. Assumes nothing.
+use borrow.Author.Rules.{rules}
+use Rattle.tablefaults.proofs.above.form.Goals as goal
+
+pub returns : goal.returns
+returns c = cc

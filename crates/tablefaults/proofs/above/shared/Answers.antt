@@ -1,0 +1,16 @@
+-- `above::shared` meets its contract. Assumes nothing.
+use borrow.Author.Rules.{rules}
+use Rattle.tablefaults.proofs.above.shared.Goals as goal
+
+pub returns : goal.returns
+returns c =
+    rw (
+      c.unless.ensures,
+      c.sinks.ensures,
+      c.once-f-3.ensures,
+      c.sharer-3.ensures,
+      c.once-f-2.ensures,
+      c.sharer-2.ensures,
+      c.once-f.ensures,
+      c.sharer.ensures,
+    )

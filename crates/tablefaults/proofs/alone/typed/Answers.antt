@@ -1,0 +1,6 @@
+-- `alone::typed` meets its contract. Assumes nothing.
+use borrow.Author.Rules.{rules}
+use Rattle.tablefaults.proofs.alone.typed.Goals as goal
+
+pub returns : goal.returns
+returns c = rw (c.unless.ensures, c.within_fits.ensures)

@@ -1,0 +1,35 @@
+-- `over` meets its contract: the rows that are left decide. Assumes nothing.
+use Prim.Native.Nat.{ℕ, ◌-◌, ◌/◌, ◌≤◌}
+use mathlib.Core.Path.{◌≡◌, sym, ap, ◌∙◌}
+use native.Mathlib.Omega.{arith}
+use borrow.Author.Rules.{rules}
+use lib.ListN.{length}
+use Rattle.words.specs.Size.{ROW}
+use Rattle.faults.specs.Faults.{first_fault}
+use Rattle.faults.proofs.Laws.{fault_here, fault_next, fault_end}
+use Rattle.tablefaults.specs.Clauses.{row_found}
+use Rattle.tablefaults.proofs.over.Goals as goal
+
+pub loop-i-init : goal.loop-i-init
+loop-i-init c = (omega arith, ap (λ (k : ℕ). first_fault (row_found c.args.t.now) k 0) (omega arith))
+
+pub returns-then-f-ne0 : goal.returns-then-f-ne0
+returns-then-f-ne0 c =
+    let t = c.args.t.now in
+    let f = c.found-f in
+    sym (c.loop-i.invariant.1 ∙ fault_here (row_found t) (length t / ROW) c.loop-i.i c.loop-i-test.true f.result
+    f.ensures c.if-f-ne0.true)
+
+pub loop-i-preserved : goal.loop-i-preserved
+loop-i-preserved c =
+    let t = c.args.t.now in
+    let f = c.found-f in (
+      omega arith,
+      c.loop-i.invariant.1 ∙ fault_next (row_found t) (length t / ROW) c.loop-i.i c.loop-i-test.true
+          f.result f.ensures (omega (arith, c.if-f-ne0.false)),
+    )
+
+pub returns : goal.returns
+returns c =
+    let t = c.args.t.now in
+    c.whole.ensures ∙ sym (c.loop-i.invariant.1 ∙ fault_end (row_found t) (length t / ROW) c.loop-i.i c.loop-i-test.false)

@@ -1,0 +1,23 @@
+-- `tray::put_downloads` meets its contract. The loop's invariant: what is left to be put, put from here, gives the whole.
+-- Assumes nothing.
+use borrow.Author.Rules.{rules}
+use mathlib.Core.List.{List}
+use Prim.Native.Nat.{ℕ, ◌+◌, ◌-◌, ◌≤◌}
+use mathlib.Core.Path.{◌≡◌, refl, sym, ap, ◌∙◌}
+use native.Mathlib.Omega.{arith}
+use borrow.Author.Tests.{not-true, not-false}
+use lib.ListN.{length}
+use Rattle.systems.specs.Set.{count}
+use Rattle.verdict.specs.Verdict.{to_locals}
+use Rattle.tray.specs.Tray.{put_all}
+use Rattle.tray.proofs.Laws.{put-length}
+use Rattle.tray.proofs.Downloads.{above, members-above, count_out, count_in, length_locals, room, small_local, put_step, skip_step}
+use Rattle.tray.proofs.Downloads.{put_end}
+use Rattle.tray.proofs.put_downloads.Given as goal
+
+abbrev pub invariant-providers : goal.invariant-providers
+invariant-providers l = (l.provider ≤ 63) × (length l.tray ≡ length l.initial.tray) × (l.at ≡ l.from + count l.set l.provider)
+    × (put_all l.tray l.at (to_locals l.m (above l.set l.provider)) ≡ put_all l.initial.tray l.from (to_locals l.m (above l.set 0)))
+
+abbrev pub decreases-providers : goal.decreases-providers
+decreases-providers l = 63 - l.provider
