@@ -1,7 +1,7 @@
 -- No place is at fault exactly where the engine's own checks say sound. Assumes nothing.
 use Prim.Native.Nat.{ℕ, zero, suc, ◌+◌, ◌/◌, ◌%◌, ◌^◌, ◌≤◌, ◌<◌}
 use mathlib.Core.Path.{◌≡◌, refl, sym, ap, ap₂, ◌∙◌}
-use mathlib.Core.Bool.{Bool, true, false, cond, not, ◌&&◌, ◌||◌, and-true, and_false, and_comm}
+use mathlib.Core.Bool.{Bool, true, false, cond, not, ◌&&◌, ◌||◌, and-true, and-false, and_comm}
 use mathlib.Core.List.{List, [], ◌∷◌, map}
 use native.Mathlib.Omega.{arith}
 use borrow.Author.Tests.{eq-eqb, ne_eqb, eqb-true, eqb-false, lt-ltb, leb-true}
@@ -110,7 +110,7 @@ module _ (w : ℕ → ℕ) (found : ℕ → Found) (good : ℕ → Bool)
       go true g e eg ih =
           faultless-next found m i (free i (eqb-true _ _ e)) ∙ free_agrees m i (eqb-true _ _ e) ∙ sym (and-true (free_from w m (suc i)))
       go false true e eg ih = faultless-next found m i (used i b (eqb-false _ _ e) ∙ eg) ∙ ih (eqb-false _ _ e)
-      go false false e eg ih = faulty_here found m i (used i b (eqb-false _ _ e) ∙ eg) ∙ sym (and_false (packed_from w m (suc i)))
+      go false false e eg ih = faulty_here found m i (used i b (eqb-false _ _ e) ∙ eg) ∙ sym (and-false (packed_from w m (suc i)))
 
 -- ---- what a place breaks
 
@@ -167,7 +167,7 @@ module _ (w : ℕ → ℕ) where
           let h : 200000 ≤ w i / 64 = leb-true _ _ (and_l _ _ (and_l _ _ e)) in
           rw (above (λ (k : ℕ). k / 64) refl i (w i) (omega arith), and-true)
           (and_comm (here m (w i % 64)) (ltb (last_at w i / 64) (w i / 64)))
-      go false e = sym (and_false (ltb (last_at w i / 64) (w i / 64)))
+      go false e = sym (and-false (ltb (last_at w i / 64) (w i / 64)))
 
       good : all_hold (code_clauses m i (last_at w i) (w i)) ≡ good_code m (last_at w i) (w i)
       good = rw (not_behind i b) (go (is_code (w i / 64)) refl)

@@ -2,7 +2,7 @@
 -- Assumes nothing.
 use mathlib.Core.Path.{◌≡◌, refl, sym, subst}
 use Prim.Native.Nat.{ℕ}
-use mathlib.Core.Bool.{Bool, true, false, or_false}
+use mathlib.Core.Bool.{Bool, true, false, or-false}
 use mathlib.Core.Option.{Option, none, some}
 use mathlib.Core.List.{List}
 use lib.Dec.{eqb, ltb}
@@ -56,7 +56,7 @@ module _ (t : List Version) (g : Given) (f : Facts) (s : Surveyed t g.rows g.eve
         k,
         c.0,
         no_due g.event (found g) c.1,
-        or_false (ltb g.event.time (last_stamp g.rows)),
+        or-false (ltb g.event.time (last_stamp g.rows)),
         s.newest,
         s.stamp,
         s.sending,

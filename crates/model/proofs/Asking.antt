@@ -2,7 +2,7 @@
 -- Assumes nothing.
 use Prim.Native.Nat.{ℕ, zero, suc, ◌+◌, ◌^◌, ◌≤◌, ◌<◌}
 use mathlib.Core.Path.{◌≡◌, refl, sym, ap, ap₂, ◌∙◌}
-use mathlib.Core.Bool.{Bool, true, false, cond, not, ◌&&◌, ◌||◌, and-true, and_comm, or_false, or_assoc}
+use mathlib.Core.Bool.{Bool, true, false, cond, not, ◌&&◌, ◌||◌, and-true, and_comm, or-false, or_assoc}
 use mathlib.Core.List.{List, [], ◌∷◌, ◌++◌, map}
 use native.Mathlib.Omega.{arith}
 use borrow.Author.Tests.{le-leb, lt-leb, leb-true, leb-false, eqb-true, eqb-false}
@@ -85,7 +85,7 @@ to_local_sms p m = m.local && eqb m.provider p
 downloads_to_lem : (w : Version) (p : ℕ) → 1 ≤ p → p ≤ 63 → any (to_local_sms p) (downloads w) ≡ member w.cast.waiting p
 unfolding members
 downloads_to_lem w p l m =
-    each (members set) ∙ has_to set p l 63 [] ∙ ap (λ (b : Bool). (b && member set p) || false) (le-leb p 63 m) ∙ or_false (member set p)
+    each (members set) ∙ has_to set p l 63 [] ∙ ap (λ (b : Bool). (b && member set p) || false) (le-leb p 63 m) ∙ or-false (member set p)
   where
     set : ℕ
     set = w.cast.waiting
@@ -123,7 +123,7 @@ told bk e v others p l m =
     let w : Version = opened (selected_for bk v.id.tn) e v in
     any_or (to_local_sms p) (downloads w) (settling_told w)
     ∙ ap (λ (b : Bool). any (to_local_sms p) (downloads w) || b) (settling_none w p)
-    ∙ or_false (any (to_local_sms p) (downloads w))
+    ∙ or-false (any (to_local_sms p) (downloads w))
     ∙ downloads_to_lem w p l m ∙ asked bk e v p l m
 
 -- ---- the five classes, shown

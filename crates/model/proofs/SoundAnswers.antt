@@ -2,7 +2,7 @@
 -- Assumes nothing.
 use mathlib.Core.Path.{◌≡◌, refl, sym, ap, ap₂, ◌∙◌, subst}
 use Prim.Native.Nat.{ℕ, ◌+◌, ◌-◌, ◌^◌, ◌≤◌, ◌<◌, max}
-use mathlib.Core.Bool.{Bool, true, false, cond, not, ◌&&◌, ◌||◌, or_true}
+use mathlib.Core.Bool.{Bool, true, false, cond, not, ◌&&◌, ◌||◌, or-true}
 use mathlib.Core.List.{List, [], ◌∷◌}
 use lib.Dec.{eqb, leb, ltb}
 use native.Mathlib.Omega.{arith}
@@ -120,7 +120,7 @@ module _ (p d : ℕ) (l : 1 ≤ p) (m : p < 64) (h : d < 8) (c : Broadcast) (w :
           → (member (cond b c.waiting (c.waiting - 2 ^ p)) p || eqb (used (with_used c.retries p (cond b (n + 1) 0)) p) 0) ≡ true
       same true k = rw w
       same false k = ap (λ (b : Bool). member (c.waiting - 2 ^ p) p || b) (eq-eqb _ 0 (used-same c.retries p 0 k))
-          ∙ or_true (member (c.waiting - 2 ^ p) p)
+          ∙ or-true (member (c.waiting - 2 ^ p) p)
 
       kept : (q : ℕ) → (q ≡ p → ⊥) → (b : Bool) → member (cond b c.waiting (c.waiting - 2 ^ p)) q ≡ member c.waiting q
       kept q ne true = refl

@@ -2,7 +2,7 @@
 -- Assumes nothing.
 use mathlib.Core.Path.{◌≡◌, refl, sym, ap, ◌∙◌}
 use Prim.Native.Nat.{ℕ, ◌^◌, ◌≤◌}
-use mathlib.Core.Bool.{Bool, true, false, cond, ◌&&◌, ◌||◌, or_true, and_false}
+use mathlib.Core.Bool.{Bool, true, false, cond, ◌&&◌, ◌||◌, or-true, and-false}
 use mathlib.Core.List.{[], ◌∷◌}
 use lib.Dec.{eqb, leb, ltb}
 use native.Mathlib.Omega.{arith}
@@ -101,7 +101,7 @@ module _ (selected : ℕ) (set : is_set selected ≡ true) (e : Event) (formed :
   aim_activate q c = record {
     small = refl;
     some = refl;
-    lasting = or_true v.live;
+    lasting = or-true v.live;
     conf = set_none;
     wait = set;
     cw = nobody-apart selected;
@@ -119,7 +119,7 @@ module _ (selected : ℕ) (set : is_set selected ≡ true) (e : Event) (formed :
     conf = set_none;
     wait = set;
     cw = nobody-apart selected;
-    confirms = rw (other, and_false v.live);
+    confirms = rw (other, and-false v.live);
     created = purposed_created v row (back_equal v.status 6 (λ (s : ℕ). is_purposed s ≡ true) q refl);
     uncancelled = back_equal v.status 6 (λ (s : ℕ). eqb s cancel_pending ≡ false) q refl;
   }
@@ -148,8 +148,8 @@ module _ (selected : ℕ) (set : is_set selected ≡ true) (e : Event) (formed :
       }
 
       go : (a : Bool) → eqb v.status 4 ≡ a → (b : Bool) → eqb v.status 5 ≡ b → (c : Bool) → eqb v.status 6 ≡ c → Resent
-      go true p b q c r = by 4 p refl refl (ap (λ (x : Bool). v.live || x) (aims 4 p) ∙ or_true v.live)
-      go false p true q c r = by 5 q refl refl (ap (λ (x : Bool). v.live || x) (aims 5 q) ∙ or_true v.live)
+      go true p b q c r = by 4 p refl refl (ap (λ (x : Bool). v.live || x) (aims 4 p) ∙ or-true v.live)
+      go false p true q c r = by 5 q refl refl (ap (λ (x : Bool). v.live || x) (aims 5 q) ∙ or-true v.live)
       go false p false q true r = by 6 r refl refl (rw (live_active r))
       go false p false q false r = clash (rw (p, q, r) at h)
 
@@ -273,7 +273,7 @@ module _ (selected : ℕ) (set : is_set selected ≡ true) (e : Event) (formed :
         uncancelled = no_canceller v row aim.uncancelled;
         apart = of_parted (opened selected e v).cast (record { cw = aim.cw; cf = none_in _; wf = none_in _ });
         retries = every-all (λ (p : ℕ). member (asked_for selected e v) p || eqb (used no_retries p) 0) 63
-            (λ p l m. rw (used_none p) (or_true (member (asked_for selected e v) p)));
+            (λ p l m. rw (used_none p) (or-true (member (asked_for selected e v) p)));
         start = lt-ltb 0 e.time f.timed;
         aimed = aim.some;
         lasting = aim.lasting;

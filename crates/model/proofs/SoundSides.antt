@@ -2,7 +2,7 @@
 -- Assumes nothing.
 use mathlib.Core.Path.{◌≡◌, refl}
 use Prim.Native.Nat.{ℕ, suc, ◌≤◌}
-use mathlib.Core.Bool.{Bool, true, false, cond, not, ◌&&◌, ◌||◌, or_true}
+use mathlib.Core.Bool.{Bool, true, false, cond, not, ◌&&◌, ◌||◌, or-true}
 use mathlib.Core.List.{[], ◌∷◌}
 use lib.Dec.{eqb, leb, ltb}
 use lib.ListN.{get_or}
@@ -334,6 +334,6 @@ module _ (e : Event) (formed : well_formed e ≡ true) (v : Version) (row : Row 
       go false p true q =
           let o : OldSide = old_from e v.old.provider in
           let r = old_from_lem e o refl refl refl refl f (old_fields e formed q 4) (old_fields e formed q 1) in
-          by v.new o refl refl row.new r.0 r.1 (or_true v.new.created) (λ z. refl) (rw (between e formed k v row h))
+          by v.new o refl refl row.new r.0 r.1 (or-true v.new.created) (λ z. refl) (rw (between e formed k v row h))
           (eqb e.mark no) refl
       go false p false q = clash (rw (p, q) at k)

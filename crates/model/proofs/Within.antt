@@ -3,7 +3,7 @@
 -- Assumes nothing.
 use mathlib.Core.Path.{◌≡◌, refl, sym, ◌∙◌}
 use Prim.Native.Nat.{ℕ}
-use mathlib.Core.Bool.{Bool, true, false, not, ◌||◌, or_true, and_false}
+use mathlib.Core.Bool.{Bool, true, false, not, ◌||◌, or-true, and-false}
 use mathlib.Core.List.{List, [], ◌∷◌}
 use lib.Dec.{eqb}
 use borrow.Author.Tests.{eqb-true, ne_eqb, not-true, not-false}
@@ -52,7 +52,7 @@ module _ (e : Event) (v : Version) (s : sound_version v ≡ true) (w : v.within 
 
   pub cancels_at_once : (cancelled e v).status ≡ canceled
   unfolding cancelled
-  cancels_at_once = rw (unjoined, and_false v.new.created)
+  cancels_at_once = rw (unjoined, and-false v.new.created)
 
   pub no_old_side : eqb e.kind kind.old_modifies ≡ true → lacks_standing e v ≡ true
   unfolding grid_rule
@@ -63,11 +63,11 @@ module _ (e : Event) (v : Version) (s : sound_version v ≡ true) (w : v.within 
   unfolding unready
   no_window k =
       let refused : unready e v ≡ true = rw (back_equal e.kind 13 (λ (n : ℕ). eqb n 5 ≡ false) k refl, k) w in
-      rw refused (or_true (eqb (grid_rule v.status e.kind (standing_of e v)) 7))
+      rw refused (or-true (eqb (grid_rule v.status e.kind (standing_of e v)) 7))
 
   pub ready_alone : eqb e.kind kind.activate ≡ true → unready e v ≡ false
   unfolding unready
-  ready_alone k = rw (k, w, or_true (v.old.created || v.window))
+  ready_alone k = rw (k, w, or-true (v.old.created || v.window))
 
 -- a create of the type is done for the current provider alone
 module _ (s : Setting) (e : Event) (t : List Version) (w : is_within e ≡ true) where

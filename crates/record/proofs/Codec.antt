@@ -1,7 +1,7 @@
 -- What `read` finds and what `write` leaves, by the record's three words.
 -- Assumes nothing.
 use mathlib.Core.Path.{◌≡◌, refl, sym, ap, ◌∙◌}
-use mathlib.Core.Bool.{Bool, true, false, cond, and_false}
+use mathlib.Core.Bool.{Bool, true, false, cond, and-false}
 use mathlib.Core.List.{List, [], ◌++◌, append-nil}
 use Prim.Native.Nat.{ℕ, ◌+◌, ◌*◌, ◌%◌, ◌^◌, ◌<◌}
 use native.Mathlib.Omega.{arith}
@@ -77,4 +77,4 @@ pub refused_length : (e : Event) (xs : List ℕ) → (length xs ≡ 24 → ⊥) 
 refused_length e xs n = record { after = simp (ne_eqb (length xs) 24 n); said = simp (ne_eqb (length xs) 24 n) }
 
 pub refused_fields : (e : Event) (xs : List ℕ) → well_formed e ≡ false → Written e xs xs 2
-refused_fields e xs f = record { after = simp (f, and_false); said = simp (f, and_false) }
+refused_fields e xs f = record { after = simp (f, and-false); said = simp (f, and-false) }

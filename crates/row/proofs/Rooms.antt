@@ -1,6 +1,6 @@
 -- A sound version has room in its row's bits. Assumes nothing.
 use mathlib.Core.Path.{◌≡◌, refl, sym, ◌∙◌}
-use mathlib.Core.Bool.{Bool, true, false, cond, ◌&&◌, or_false}
+use mathlib.Core.Bool.{Bool, true, false, cond, ◌&&◌, or-false}
 use mathlib.Core.List.{[], ◌∷◌}
 use Prim.Native.Nat.{ℕ, ◌/◌, ◌%◌, ◌^◌, ◌≤◌, ◌<◌}
 use native.Mathlib.Omega.{arith}
@@ -62,7 +62,7 @@ new_room s e =
 
 authorized : (a : ℕ) (b : Bool) → eqb a yes ≡ b → among a (yes ∷ no ∷ []) ≡ true → a < 4
 authorized a true q e = let z : a ≡ 1 = eqb-true _ _ q in omega arith
-authorized a false q e = let z : a ≡ 2 = eqb-true _ _ (sym (or_false (eqb a no)) ∙ rw q at e) in omega arith
+authorized a false q e = let z : a ≡ 2 = eqb-true _ _ (sym (or-false (eqb a no)) ∙ rw q at e) in omega arith
 
 old_room : (s : OldSide) → old_whole s ≡ true → (s.due < 4294967296) × (s.authorization < 4)
 unfolding old_whole

@@ -1,6 +1,6 @@
 -- The laws of `specs/Sound.antt`: a turn of the loop, and what a table of sound rows is. Assumes nothing.
 use mathlib.Core.Path.{◌≡◌, refl, sym, ap, ap₂, ◌∙◌, subst}
-use mathlib.Core.Bool.{Bool, true, false, ◌&&◌, and_false}
+use mathlib.Core.Bool.{Bool, true, false, ◌&&◌, and-false}
 use borrow.Author.Tests.{ne_eqb}
 use mathlib.Core.Logic.{◌⊎◌, inl, inr, ⊎_elim}
 use mathlib.Core.List.{List, [], ◌∷◌, ◌++◌, map}
@@ -67,7 +67,7 @@ no_version w z = go (sound_version (version_of w)) refl
 open_zero : (n : ℕ) (g : Group) (w : Words) → w.head ≡ 0 → scan_row (Open n g) w ≡ scan_row (Ended n) w
 unfolding scan_row admit_of
 open_zero n g w z = ap (λ (b : Bool). pick (is_blank w) (Ended n) (open_by n (join_if (spareless w && b) (join_of g (version_of w)) No)))
-    (no_version w z) ∙ rw and_false
+    (no_version w z) ∙ rw and-false
 
 head_used : (w : Words) → (w.head ≡ 0 → ⊥) → is_blank w ≡ false
 unfolding is_blank

@@ -2,7 +2,7 @@
 -- Assumes nothing.
 use Prim.Native.Nat.{ℕ, zero, suc, ◌+◌, ◌%◌, ◌^◌, ◌≤◌, ◌<◌}
 use mathlib.Core.Path.{◌≡◌, refl, sym, ap, ap₂, ◌∙◌}
-use mathlib.Core.Bool.{Bool, true, false, cond, not, ◌&&◌, ◌||◌, and-true, and_false, and_self, and_comm}
+use mathlib.Core.Bool.{Bool, true, false, cond, not, ◌&&◌, ◌||◌, and-true, and-false, and_self, and_comm}
 use mathlib.Core.List.{List}
 use native.Mathlib.Nat.{pow-suc, add-zero}
 use native.Mathlib.Numerals.{add-one}
@@ -105,7 +105,7 @@ module _ (m : Marks) (bs : List ℕ) (c p q : ℕ) (hq : q ≡ partner_of (decod
   unskipped h =
       skipped-both (decode_books m bs) c p q hq
       ∙ ap (λ (b : Bool). filters (decode_books m bs) p (smaller_of c q) && b) (no_filter p (larger_of c q) h (places_from bs 0))
-      ∙ and_false (filters (decode_books m bs) p (smaller_of c q))
+      ∙ and-false (filters (decode_books m bs) p (smaller_of c q))
 
 -- ---- the set of the selected
 

@@ -1,6 +1,6 @@
 -- What holds of each system: sets apart, and retries. Assumes nothing.
 use mathlib.Core.Path.{◌≡◌, refl, sym, ap, ◌∙◌}
-use mathlib.Core.Bool.{Bool, true, false, cond, not, ◌&&◌, ◌||◌, or_true}
+use mathlib.Core.Bool.{Bool, true, false, cond, not, ◌&&◌, ◌||◌, or-true}
 use Prim.Native.Nat.{ℕ, zero, suc, ◌%◌, ◌^◌, ◌≤◌, ◌<◌}
 use native.Mathlib.Nat.{zero-div, mod-lt, div-one, mod-mod, lt_of_le_of_lt}
 use native.Mathlib.Omega.{arith}
@@ -78,7 +78,7 @@ pub retries_none : (c : Broadcast) → c.retries.low ≡ 0 → c.retries.mid ≡
 unfolding retries_fit
 retries_none c x y z =
     every-all (waits c) 63
-    (λ p h l. rw (eq-eqb (used c.retries p) 0 (used_none c.retries p x y z)) (or_true (member c.waiting p)))
+    (λ p h l. rw (eq-eqb (used c.retries p) 0 (used_none c.retries p x y z)) (or-true (member c.waiting p)))
 
 pub retries_zero : (c : Broadcast) → c.retries.low ≡ 0 → c.retries.mid ≡ 0 → c.retries.high ≡ 0 → retries_sound c ≡ true
 unfolding retries_sound retries_in_range

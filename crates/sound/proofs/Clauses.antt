@@ -4,7 +4,7 @@ use mathlib.Core.List.{List, [], ◌∷◌}
 use Prim.Native.Nat.{ℕ, ◌^◌}
 use lib.Dec.{ltb, leb}
 use lib.ListN.{get_or}
-use mathlib.Core.Bool.{Bool, true, false, ◌&&◌, and_false}
+use mathlib.Core.Bool.{Bool, true, false, ◌&&◌, and-false}
 use Rattle.model.specs.declared.Version.{Version}
 use Rattle.model.specs.Numbers.{ten_digits, is_provider, is_set, is_time, is_number}
 use Rattle.model.proofs.Lists.{conj, conj_at, conj_all}
@@ -112,7 +112,7 @@ unfolding outline_fits
 outline_purpose v e = conj_at (outline v) e 6
 
 pub sides_order : (d n o e l y : Bool) → (d && n && o && e && l && y) ≡ (n && (o && (d && e && l && y)))
-sides_order false n o e l y = sym (ap (λ (b : Bool). n && b) (and_false o) ∙ and_false n)
+sides_order false n o e l y = sym (ap (λ (b : Bool). n && b) (and-false o) ∙ and-false n)
 sides_order true false o e l y = refl
 sides_order true true false e l y = refl
 sides_order true true true e l y = refl

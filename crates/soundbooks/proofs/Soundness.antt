@@ -2,7 +2,7 @@
 -- Assumes nothing.
 use Prim.Native.Nat.{ℕ, ◌+◌, ◌-◌, ◌/◌, ◌%◌, ◌^◌, ◌<◌}
 use mathlib.Core.Path.{◌≡◌, refl, sym, ap, ap₂, ◌∙◌}
-use mathlib.Core.Bool.{Bool, true, false, not, ◌&&◌, ◌||◌, and_assoc, and_false}
+use mathlib.Core.Bool.{Bool, true, false, not, ◌&&◌, ◌||◌, and_assoc, and-false}
 use mathlib.Core.List.{List, [], ◌∷◌, map}
 use native.Mathlib.Omega.{arith}
 use borrow.Author.Tests.{le-leb}
@@ -96,10 +96,10 @@ sound_parts m bs = rw (codes_sound m (code_place bs), filters_sound m (filter_pl
         ≡ (l && (h && (m && ((c && x) && ((f && y) && (s && z))))))
     parts false h c f s m x y z = refl
     parts true false c f s m x y z = refl
-    parts true true false f s m x y z = sym (and_false m)
-    parts true true true false s m x y z = sym (ap (λ (b : Bool). m && b) (and_false x) ∙ and_false m)
+    parts true true false f s m x y z = sym (and-false m)
+    parts true true true false s m x y z = sym (ap (λ (b : Bool). m && b) (and-false x) ∙ and-false m)
     parts true true true true false m x y z =
-        sym (ap (λ (b : Bool). m && (x && b)) (and_false y) ∙ ap (λ (b : Bool). m && b) (and_false x) ∙ and_false m)
+        sym (ap (λ (b : Bool). m && (x && b)) (and-false y) ∙ ap (λ (b : Bool). m && b) (and-false x) ∙ and-false m)
     parts true true true true true m x y z = and_assoc (m && x) y z ∙ and_assoc m x (y && z)
 
 -- ---- the steps of the tests, as the code takes them
@@ -129,7 +129,7 @@ module _ (w : ℕ → ℕ) (n i x a b : ℕ) (h : i < n) (hx : x ≡ w i) (nz : 
   apart_one t = apart_row ∙ rw t
 
   pub apart_other : r ≡ false → s ≡ true → apart_from a b (rest_of w n i) ≡ false
-  apart_other f t = apart_row ∙ rw (f, t) (and_false (unsplit a (map split_of (rest_of w n (i + 1)))))
+  apart_other f t = apart_row ∙ rw (f, t) (and-false (unsplit a (map split_of (rest_of w n (i + 1)))))
 
   pub apart_next : r ≡ false → s ≡ false → apart_from a b (rest_of w n i) ≡ apart_from a b (rest_of w n (i + 1))
   apart_next f g = apart_row ∙ rw (f, g)

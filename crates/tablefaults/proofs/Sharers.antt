@@ -1,7 +1,7 @@
 -- The search for a row that shares what a TN has once: what row j - 1 leaves to those before it. Assumes nothing.
 use Prim.Native.Nat.{ℕ, ◌+◌, ◌-◌, ◌<◌}
 use mathlib.Core.Path.{◌≡◌, sym, ◌∙◌}
-use mathlib.Core.Bool.{Bool, true, false, ◌&&◌, and-true, and_false}
+use mathlib.Core.Bool.{Bool, true, false, ◌&&◌, and-true, and-false}
 use mathlib.Core.List.{List}
 use native.Mathlib.Omega.{arith}
 use lib.Dec.{eqb}
@@ -13,7 +13,7 @@ use Rattle.tablefaults.specs.Clauses.{version_at, mark, share, sharer}
 module _ (n : ℕ) (t : List ℕ) (v : Version) where
   -- what v does not have it shares with nobody
   pub sharer_none : (i : ℕ) → mark n v ≡ false → 0 ≡ sharer n t i v
-  sharer_none i e = sym (nearest_none (λ (j : ℕ). share n (version_at t j) v) i (λ j k. rw (e, and_false)))
+  sharer_none i e = sym (nearest_none (λ (j : ℕ). share n (version_at t j) v) i (λ j k. rw (e, and-false)))
 
   pub sharer_end : (j : ℕ) → j ≡ 0 → 0 ≡ sharer n t j v
   unfolding nearest

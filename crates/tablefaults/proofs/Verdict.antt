@@ -1,7 +1,7 @@
 -- No row is at fault exactly where the scan, the engine's own check, says sound. Assumes nothing.
 use Prim.Native.Nat.{ℕ, zero, suc, ◌+◌, ◌-◌, ◌*◌, ◌/◌, ◌%◌, ◌^◌, ◌≤◌, ◌<◌}
 use mathlib.Core.Path.{◌≡◌, refl, sym, ap, ap₂, ◌∙◌, subst}
-use mathlib.Core.Bool.{Bool, true, false, cond, not, ◌&&◌, and-true, and_false, and_assoc, or_true, or_false}
+use mathlib.Core.Bool.{Bool, true, false, cond, not, ◌&&◌, and-true, and-false, and_assoc, or-true, or-false}
 use mathlib.Core.List.{List}
 use native.Mathlib.Numerals.{add-one}
 use native.Mathlib.Omega.{arith}
@@ -45,8 +45,8 @@ cast_ranges c = go (leb c.purpose 3) (ltb c.start (2 ^ 32)) (is_set c.confirmed)
     go true true true true false r = refl
     go true true true false d r = refl
     go true true false b d r = refl
-    go true false a b d r = sym (and_false (a && b && d))
-    go false s a b d r = sym (and_false (a && b && d))
+    go true false a b d r = sym (and-false (a && b && d))
+    go false s a b d r = sym (and-false (a && b && d))
 
 -- the clauses by itself are those of a sound version
 pub alone_sound : (v : Version)
@@ -88,8 +88,8 @@ module _ (t : List ℕ) where
             ≡ not (second s b x)
         go false s e = rw (
           nearest_none (λ (j : ℕ). eqb (tn_at j) v.id.tn.0 && p (version_at t j) && false) i
-              (λ j k. and_false (eqb (tn_at j) v.id.tn.0 && p (version_at t j))),
-          and_false,
+              (λ j k. and-false (eqb (tn_at j) v.id.tn.0 && p (version_at t j))),
+          and-false,
         )
         go true true e = ap (λ (n : ℕ). eqb n 0) (nearest-same _ _ i (own (eqb-true _ _ e))) ∙ is ∙ ap not (sym (and-true b))
         go true false e =
@@ -104,8 +104,8 @@ module _ (t : List ℕ) where
         ∙ rw (eq-eqb v.id.tn.0 v.id.tn.0 refl) (go (p v) (eqb v.id.tn.0 m) refl)
       where
         go : (x s : Bool) → eqb v.id.tn.0 m ≡ s → eqb (cond x (suc i) (had p v.id.tn.0 i)) 0 ≡ not (either s b x)
-        go true s e = ne_eqb (suc i) 0 (λ z. absurd (omega arith)) ∙ ap not (sym (or_true (s && b)))
-        go false true e = ap (λ (n : ℕ). eqb (had p n i) 0) (eqb-true _ _ e) ∙ is ∙ ap not (sym (or_false b))
+        go true s e = ne_eqb (suc i) 0 (λ z. absurd (omega arith)) ∙ ap not (sym (or-true (s && b)))
+        go false true e = ap (λ (n : ℕ). eqb (had p n i) 0) (eqb-true _ _ e) ∙ is ∙ ap not (sym (or-false b))
         go false false e =
             let ne : (v.id.tn.0 ≡ m → ⊥) = eqb-false _ _ e in
             let h : m < v.id.tn.0 = omega arith in
@@ -227,7 +227,7 @@ module _ (t : List ℕ) where
 
       group : (a b c d e : Bool) → (a && (b && (c && (d && e)))) ≡ ((a && (b && (c && e))) && d)
       group true true true true e = sym (and-true e)
-      group true true true false e = sym (and_false e)
+      group true true true false e = sym (and-false e)
       group true true false d e = refl
       group true false c d e = refl
       group false b c d e = refl

@@ -1,5 +1,5 @@
 -- `judge::unready` meets its contract. Assumes nothing.
-use mathlib.Core.Bool.{or_false}
+use mathlib.Core.Bool.{or-false}
 use borrow.Author.Tests.{eq-eqb, ne_eqb}
 use Rattle.model.specs.Standing.{unready}
 use Rattle.judge.proofs.unready.Goals as goal
@@ -18,7 +18,7 @@ returns-then-e c =
     rw (
       ne_eqb _ 5 c.if-e-eq-ACTIVATE.false,
       ne_eqb _ 13 c.if-e-eq-WINDOW_RAN_OUT.false,
-      or_false _,
+      or-false _,
       c.if-e.true,
     )
 
@@ -28,6 +28,6 @@ returns c =
     rw (
       ne_eqb _ 5 c.if-e-eq-ACTIVATE.false,
       ne_eqb _ 13 c.if-e-eq-WINDOW_RAN_OUT.false,
-      or_false _,
+      or-false _,
       c.if-e.false,
     )
