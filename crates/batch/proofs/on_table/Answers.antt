@@ -14,7 +14,7 @@ returns-then-not-fits c =
     c.args.outs.now 1 _ c.refused.ensures
     (unfit c.args.l c.args.books.now c.args.most c.args.events.now c.args.table.now c.args.tray.now
     c.args.outs.now _ c.requires.table_value (ap (λ (k : ℕ). fitting c.args.most k) (sym c.places-places.ensures)
-    ∙ sym c.fit-fits.ensures ∙ not-true _ c.if-not-fits.true)) (λ z. omega (arith, z))
+    ∙ sym c.fit-fits.ensures ∙ c.if-not-fits.true)) (λ z. omega (arith, z))
 
 pub returns-then-outs-events : goal.returns-then-outs-events
 returns-then-outs-events c =
@@ -23,7 +23,7 @@ returns-then-outs-events c =
     (short c.args.l c.args.books.now c.args.most c.args.events.now c.args.table.now c.args.tray.now
     c.args.outs.now _ c.requires.table_value
     (ap (λ (k : ℕ). fitting c.args.most k) (sym c.places-places.ensures)
-    ∙ sym c.fit-fits.ensures ∙ not-false _ c.if-not-fits.false) c.if-outs-events.true)
+    ∙ sym c.fit-fits.ensures ∙ c.if-not-fits.false) c.if-outs-events.true)
     (λ z. omega (arith, z))
 
 pub returns-then-events-ne0 : goal.returns-then-events-ne0
@@ -33,7 +33,7 @@ returns-then-events-ne0 c =
     (partly c.args.l c.args.books.now c.args.most c.args.events.now c.args.table.now c.args.tray.now
     c.args.outs.now _ c.requires.table_value
     (ap (λ (k : ℕ). fitting c.args.most k) (sym c.places-places.ensures)
-    ∙ sym c.fit-fits.ensures ∙ not-false _ c.if-not-fits.false)
+    ∙ sym c.fit-fits.ensures ∙ c.if-not-fits.false)
     c.if-outs-events.false c.if-events-ne0.true) (λ z. omega (arith, z))
 
 pub all-requires : goal.all-requires
@@ -45,7 +45,7 @@ all-requires c =
         (ap (λ (k : ℕ). fitting c.args.most k)
             (sym c.places-places.ensures)
             ∙ sym c.fit-fits.ensures
-            ∙ not-false _ c.if-not-fits.false),
+            ∙ c.if-not-fits.false),
         c.if-outs-events.false,
       );
     }
@@ -57,6 +57,6 @@ returns c =
     (wholly c.args.l c.args.books.now c.args.most c.args.events.now c.args.table.now c.args.tray.now
     c.args.outs.now _ c.requires.table_value
     (ap (λ (k : ℕ). fitting c.args.most k)
-    (sym c.places-places.ensures) ∙ sym c.fit-fits.ensures ∙ not-false _ c.if-not-fits.false) c.if-outs-events.false
+    (sym c.places-places.ensures) ∙ sym c.fit-fits.ensures ∙ c.if-not-fits.false) c.if-outs-events.false
     c.if-events-ne0.false)
     c.all.ensures

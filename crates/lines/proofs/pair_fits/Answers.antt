@@ -88,7 +88,7 @@ returns-then-not-row_fits c =
     sym (pair_fails a.c a.d (decode a.t.now) (listed a.t.now a.n c.requires.sound_table) l.at l.i l.invariant
     (omega (arith, c.requires.sound_table.count, h)) (w.result / 1073741824) g.tn c.if-w-d.false
     c.reach-at.result c.reach-at.ensures c.row_fits.result c.row_fits.ensures
-    (not-true _ c.if-not-row_fits.true))
+    (c.if-not-row_fits.true))
 
 pub loop-i-preserved : goal.loop-i-preserved
 loop-i-preserved c =
@@ -100,7 +100,7 @@ loop-i-preserved c =
     pair_on a.c a.d (decode a.t.now) (listed a.t.now a.n c.requires.sound_table) l.at l.i l.invariant
     (omega (arith, c.requires.sound_table.count, h)) (w.result / 1073741824) g.tn c.if-w-d.false
     c.reach-at.result c.reach-at.ensures c.row_fits.result c.row_fits.ensures
-    (not-false _ c.if-not-row_fits.false)
+    (c.if-not-row_fits.false)
 
 pub returns : goal.returns
 returns c =

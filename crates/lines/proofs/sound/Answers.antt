@@ -50,7 +50,7 @@ returns-then-not-pair_fits c =
     let vs = decode a.t.now in
     sym (pairs_fail w split_places l.i xs vs l.invariant c.u64_at-w.result
     c.u64_at-w.ensures (omega (arith, c.loop-i-test.true))
-    c.if-w-eq0.false c.pair_fits.result c.pair_fits.ensures (not-true _ c.if-not-pair_fits.true))
+    c.if-w-eq0.false c.pair_fits.result c.pair_fits.ensures (c.if-not-pair_fits.true))
     ∙ pairs_lines xs c.requires.books_len.1 vs (rows_in a.t.now) c.requires.sound_table.sound
 
 pub loop-i-preserved : goal.loop-i-preserved
@@ -62,7 +62,7 @@ loop-i-preserved c =
     let vs = decode a.t.now in
     pairs_on w split_places l.i xs vs l.invariant c.u64_at-w.result c.u64_at-w.ensures
     (omega (arith, c.loop-i-test.true)) c.if-w-eq0.false c.pair_fits.result
-    c.pair_fits.ensures (not-false _ c.if-not-pair_fits.false)
+    c.pair_fits.ensures (c.if-not-pair_fits.false)
 
 pub returns : goal.returns
 returns c =

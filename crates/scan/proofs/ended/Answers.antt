@@ -14,13 +14,13 @@ pub returns-then-not-free : goal.returns-then-not-free
 returns-then-not-free c =
     let a = c.args in
     ended_bad a.t.now c.loop-i.i c.loop-i-test.true a.used
-    (sym c.free.ensures ∙ not-true c.free.result c.if-not-free.true) ∙ c.loop-i.invariant
+    (sym c.free.ensures ∙ c.if-not-free.true) ∙ c.loop-i.invariant
 
 pub loop-i-preserved : goal.loop-i-preserved
 loop-i-preserved c =
     let a = c.args in
     ended_next a.t.now c.loop-i.i c.loop-i-test.true a.used
-    (sym c.free.ensures ∙ not-false c.free.result c.if-not-free.false) ∙ c.loop-i.invariant
+    (sym c.free.ensures ∙ c.if-not-free.false) ∙ c.loop-i.invariant
 
 pub returns : goal.returns
 returns c =

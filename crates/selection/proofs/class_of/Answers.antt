@@ -9,7 +9,7 @@ use Rattle.systems.specs.Set.{member}
 use Rattle.selection.proofs.class_of.Goals as goal
 
 pub returns-then-not-has : goal.returns-then-not-has
-returns-then-not-has c = rw (sym c.has.ensures ∙ not-true _ c.if-not-has.true)
+returns-then-not-has c = rw (sym c.has.ensures ∙ c.if-not-has.true)
 
 present : (c : tie.Else1) → member c.before.before.args.c.marks.present c.before.before.args.provider ≡ true
 present c = sym c.before.has.ensures ∙ not-false _ c.if1.false
@@ -19,7 +19,7 @@ runs : (c : tie.Else2)
 runs c = sym c.before.has2.ensures ∙ not-false _ c.if2.false
 
 pub returns-then-not-has-2 : goal.returns-then-not-has-2
-returns-then-not-has-2 c = rw (present c, sym c.has-2.ensures ∙ not-true _ c.if-not-has-2.true)
+returns-then-not-has-2 c = rw (present c, sym c.has-2.ensures ∙ c.if-not-has-2.true)
 
 pub returns-then-has : goal.returns-then-has
 returns-then-has c = rw (present c, runs c, sym c.has-3.ensures ∙ c.if-has.true)

@@ -59,7 +59,7 @@ pub providers-preserved-then-not-has : goal.providers-preserved-then-not-has
 providers-preserved-then-not-has c =
     let s = c.providers.invariant in (
       omega (arith, s.0),
-      serve_none s.1 c.providers-test.true (sym c.has.ensures ∙ not-true _ c.if-not-has.true),
+      serve_none s.1 c.providers-test.true (sym c.has.ensures ∙ c.if-not-has.true),
     )
 
 pub overflow_add-wanted : goal.overflow_add-wanted
@@ -129,7 +129,7 @@ providers-preserved c =
     t.branch in (
       omega (arith, f.invariant.0, ended.0),
       serve_selected c.providers.invariant.1 c.providers-test.true (omega (arith, c.if-last-ge-CODES.false)) f.invariant.1
-          (start c).requires (sym c.has.ensures ∙ not-false _ c.if-not-has.false) ended.1 _ c.bit-selected.ensures,
+          (start c).requires (sym c.has.ensures ∙ c.if-not-has.false) ended.1 _ c.bit-selected.ensures,
     )
 
 pub returns : goal.returns

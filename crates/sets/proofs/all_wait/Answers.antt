@@ -9,15 +9,15 @@ use Rattle.sets.proofs.all_wait.Goals as goal
 pub returns-then-not-digits_wait : goal.returns-then-not-digits_wait
 returns-then-not-digits_wait c =
     sym (three-words c.args.c
-    ∙ rw (sym c.digits_wait.ensures ∙ not-true c.digits_wait.result c.if-not-digits_wait.true))
+    ∙ rw (sym c.digits_wait.ensures ∙ c.if-not-digits_wait.true))
 
 pub returns-then-not-digits_wait-2 : goal.returns-then-not-digits_wait-2
 returns-then-not-digits_wait-2 c =
     sym (three-words c.args.c
     ∙ rw (
       (sym c.digits_wait.ensures
-          ∙ not-false c.digits_wait.result c.if-not-digits_wait.false),
-      (sym c.digits_wait-2.ensures ∙ not-true c.digits_wait-2.result c.if-not-digits_wait-2.true),
+          ∙ c.if-not-digits_wait.false),
+      (sym c.digits_wait-2.ensures ∙ c.if-not-digits_wait-2.true),
     ))
 
 pub returns : goal.returns
@@ -26,8 +26,6 @@ returns c =
     ∙ sym (three-words c.args.c
     ∙ rw (
       (sym c.digits_wait.ensures
-          ∙ not-false c.digits_wait.result
-          c.if-not-digits_wait.false),
-      (sym c.digits_wait-2.ensures ∙ not-false c.digits_wait-2.result
-          c.if-not-digits_wait-2.false),
+          ∙ c.if-not-digits_wait.false),
+      (sym c.digits_wait-2.ensures ∙ c.if-not-digits_wait-2.false),
     ))

@@ -8,10 +8,10 @@ use Rattle.sets.proofs.used_fit.Goals as goal
 pub returns-then-not-retries_in_range : goal.returns-then-not-retries_in_range
 unfolding retries_sound
 returns-then-not-retries_in_range c =
-    rw (sym c.retries_in_range.ensures ∙ not-true c.retries_in_range.result c.if-not-retries_in_range.true)
+    rw (sym c.retries_in_range.ensures ∙ c.if-not-retries_in_range.true)
 
 pub returns : goal.returns
 unfolding retries_sound
 returns c =
     rw (sym c.retries_in_range.ensures
-    ∙ not-false c.retries_in_range.result c.if-not-retries_in_range.false) c.all_wait.ensures
+    ∙ c.if-not-retries_in_range.false) c.all_wait.ensures

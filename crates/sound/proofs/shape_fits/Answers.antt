@@ -9,21 +9,20 @@ use Rattle.sound.proofs.shape_fits.Goals as goal
 pub returns-then-not-outline_fits : goal.returns-then-not-outline_fits
 unfolding shape_fits
 returns-then-not-outline_fits c =
-    rw (sym c.outline_fits.ensures ∙ not-true c.outline_fits.result c.if-not-outline_fits.true)
+    rw (sym c.outline_fits.ensures ∙ c.if-not-outline_fits.true)
 
 pub marks_fit-requires : goal.marks_fit-requires
 marks_fit-requires c =
     let v = c.args.v in
-    let e = sym c.outline_fits.ensures ∙ not-false c.outline_fits.result c.if-not-outline_fits.false in
+    let e = sym c.outline_fits.ensures ∙ c.if-not-outline_fits.false in
     (leb-true _ _ (outline_status v e), leb-true _ _ (outline_purpose v e))
 
 pub returns-then-not-marks_fit : goal.returns-then-not-marks_fit
 unfolding shape_fits
 returns-then-not-marks_fit c =
     rw (
-      sym c.outline_fits.ensures ∙ not-false c.outline_fits.result
-          c.if-not-outline_fits.false,
-      sym c.marks_fit.ensures ∙ not-true c.marks_fit.result c.if-not-marks_fit.true,
+      sym c.outline_fits.ensures ∙ c.if-not-outline_fits.false,
+      sym c.marks_fit.ensures ∙ c.if-not-marks_fit.true,
     )
 
 pub returns : goal.returns
@@ -31,7 +30,7 @@ unfolding shape_fits
 returns c =
     rw (
       sym c.outline_fits.ensures
-          ∙ not-false c.outline_fits.result c.if-not-outline_fits.false,
-      sym c.marks_fit.ensures ∙ not-false c.marks_fit.result c.if-not-marks_fit.false,
+          ∙ c.if-not-outline_fits.false,
+      sym c.marks_fit.ensures ∙ c.if-not-marks_fit.false,
     )
     c.sides_fit.ensures

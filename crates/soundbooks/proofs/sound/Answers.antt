@@ -20,7 +20,7 @@ returns-then-not-head_free c =
     (sound_parts a.marks a.books.now
     ∙ rw (
       eq-eqb _ _ c.if-books-ne-BOOK_BYTES.false,
-      sym c.head_free.ensures ∙ not-true _ c.if-not-head_free.true,
+      sym c.head_free.ensures ∙ c.if-not-head_free.true,
     ))
 
 pub returns-then-not-sound : goal.returns-then-not-sound
@@ -30,8 +30,8 @@ returns-then-not-sound c =
     (sound_parts a.marks a.books.now
     ∙ rw (
       eq-eqb _ _ c.if-books-ne-BOOK_BYTES.false,
-      sym c.head_free.ensures ∙ not-false _ c.if-not-head_free.false,
-      sym c.sound.ensures ∙ not-true _ c.if-not-sound.true,
+      sym c.head_free.ensures ∙ c.if-not-head_free.false,
+      sym c.sound.ensures ∙ c.if-not-sound.true,
     ))
 
 pub returns-then-not-sound_rows : goal.returns-then-not-sound_rows
@@ -41,9 +41,9 @@ returns-then-not-sound_rows c =
     (sound_parts a.marks a.books.now
     ∙ rw (
       eq-eqb _ _ c.if-books-ne-BOOK_BYTES.false,
-      sym c.head_free.ensures ∙ not-false _ c.if-not-head_free.false,
-      sym c.sound.ensures ∙ not-false _ c.if-not-sound.false,
-      sym c.sound_rows.ensures ∙ not-true _ c.if-not-sound_rows.true,
+      sym c.head_free.ensures ∙ c.if-not-head_free.false,
+      sym c.sound.ensures ∙ c.if-not-sound.false,
+      sym c.sound_rows.ensures ∙ c.if-not-sound_rows.true,
     ))
 
 pub returns-then-not-sound_rows-2 : goal.returns-then-not-sound_rows-2
@@ -54,10 +54,10 @@ returns-then-not-sound_rows-2 c =
     ∙ rw (
       eq-eqb _ _ c.if-books-ne-BOOK_BYTES.false,
       sym c.head_free.ensures
-          ∙ not-false _ c.if-not-head_free.false,
-      sym c.sound.ensures ∙ not-false _ c.if-not-sound.false,
-      sym c.sound_rows.ensures ∙ not-false _ c.if-not-sound_rows.false,
-      sym c.sound_rows-2.ensures ∙ not-true _ c.if-not-sound_rows-2.true,
+          ∙ c.if-not-head_free.false,
+      sym c.sound.ensures ∙ c.if-not-sound.false,
+      sym c.sound_rows.ensures ∙ c.if-not-sound_rows.false,
+      sym c.sound_rows-2.ensures ∙ c.if-not-sound_rows-2.true,
     ))
 
 pub returns : goal.returns
@@ -68,9 +68,9 @@ returns c =
     ∙ rw (
       eq-eqb _ _ c.if-books-ne-BOOK_BYTES.false,
       sym c.head_free.ensures
-          ∙ not-false _ c.if-not-head_free.false,
+          ∙ c.if-not-head_free.false,
       sym c.sound.ensures
-          ∙ not-false _ c.if-not-sound.false,
-      sym c.sound_rows.ensures ∙ not-false _ c.if-not-sound_rows.false,
-      sym c.sound_rows-2.ensures ∙ not-false _ c.if-not-sound_rows-2.false,
+          ∙ c.if-not-sound.false,
+      sym c.sound_rows.ensures ∙ c.if-not-sound_rows.false,
+      sym c.sound_rows-2.ensures ∙ c.if-not-sound_rows-2.false,
     ) (sym c.sound_splits.ensures))

@@ -32,7 +32,7 @@ returns-then-not-good_row c =
     let a = c.args in
     sym (l.invariant.1 ∙ scan_bad (row_test a.filters a.marks) (place_of 4 a.at a.books.now) row_places l.i l.last l.w
     c.loop-i-test.true l.invariant.0 _ c.if-w-eq0.false c.good_row.ensures
-    (not-true _ c.if-not-good_row.true))
+    (c.if-not-good_row.true))
 
 pub loop-i-preserved : goal.loop-i-preserved
 loop-i-preserved c =
@@ -41,7 +41,7 @@ loop-i-preserved c =
       c.u32_at-w-in-loop-i.ensures,
       l.invariant.1 ∙ scan-next (row_test a.filters a.marks) (place_of 4 a.at a.books.now) row_places l.i
           l.last l.w c.loop-i-test.true l.invariant.0 _ c.if-w-eq0.false
-          c.good_row.ensures (not-false _ c.if-not-good_row.false),
+          c.good_row.ensures (c.if-not-good_row.false),
     )
 
 pub returns : goal.returns

@@ -23,13 +23,13 @@ returns-then-not-good_split c =
     let l = c.loop-i in
     sym (l.invariant ∙ scan_bad split_test (split_place c.args.books.now) split_places l.i 0 _
     c.loop-i-test.true c.u64_at-w.ensures _ c.if-w-eq0.false c.good_split.ensures
-    (not-true _ c.if-not-good_split.true))
+    (c.if-not-good_split.true))
 
 pub loop-i-preserved : goal.loop-i-preserved
 loop-i-preserved c =
     let l = c.loop-i in
     l.invariant ∙ split_next c.args.books.now l.i _ _ c.loop-i-test.true c.u64_at-w.ensures
-    c.if-w-eq0.false c.good_split.ensures (not-false _ c.if-not-good_split.false)
+    c.if-w-eq0.false c.good_split.ensures (c.if-not-good_split.false)
 
 pub returns : goal.returns
 returns c =

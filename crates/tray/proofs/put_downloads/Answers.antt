@@ -23,7 +23,7 @@ pub providers-preserved-then-not-has : goal.providers-preserved-then-not-has
 providers-preserved-then-not-has c =
     let a = c.args in
     let l = c.providers in
-    let out = sym c.has.ensures ∙ not-true _ c.if-not-has.true in (
+    let out = sym c.has.ensures ∙ c.if-not-has.true in (
       search rules,
       l.invariant.1,
       l.invariant.2 ∙ ap (λ (n : ℕ). a.from + n) (sym (count_out a.set l.provider out)),
@@ -35,9 +35,9 @@ put_message-requires c =
     let l = c.providers in (
       room c.args.tray.now l.tray c.args.m c.args.from l.at l.provider c.args.set
           c.providers-test.true
-          (sym c.has.ensures ∙ not-false _ c.if-not-has.false) l.invariant.2 c.requires.set_bound l.invariant.1,
+          (sym c.has.ensures ∙ c.if-not-has.false) l.invariant.2 c.requires.set_bound l.invariant.1,
       small_local c.args.m _ c.args.set l.provider c.requires.all c.providers-test.true
-          (sym c.has.ensures ∙ not-false _ c.if-not-has.false) c.to_local.ensures,
+          (sym c.has.ensures ∙ c.if-not-has.false) c.to_local.ensures,
     )
 
 pub overflow_add-at : goal.overflow_add-at
@@ -48,14 +48,14 @@ overflow_add-at c =
       room c.args.tray.now l.tray c.args.m c.args.from l.at l.provider c.args.set
           c.providers-test.true
           (sym c.has.ensures
-          ∙ not-false _ c.if-not-has.false) l.invariant.2 c.requires.set_bound l.invariant.1,
+          ∙ c.if-not-has.false) l.invariant.2 c.requires.set_bound l.invariant.1,
     )
 
 pub providers-preserved : goal.providers-preserved
 providers-preserved c =
     let l = c.providers in
     let in' = sym c.has.ensures
-    ∙ not-false _ c.if-not-has.false in (
+    ∙ c.if-not-has.false in (
       search rules,
       ap length c.put_message.ensures
           ∙ put-length l.tray l.at _

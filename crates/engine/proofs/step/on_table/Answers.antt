@@ -11,7 +11,7 @@ pub returns-then-not-fits : goal.returns-then-not-fits
 returns-then-not-fits c =
     did_refuse _ _ _ _ _ (unfit_refused c.args.l c.args.books.now c.args.most c.args.event.now c.args.table.now
     c.args.tray.now _ c.requires.sound_table c.requires.table_value (ap (λ (k : ℕ). fitting c.args.most k)
-    (sym c.places-places.ensures) ∙ sym c.fit-fits.ensures ∙ not-true _ c.if-not-fits.true)) (refl, refl)
+    (sym c.places-places.ensures) ∙ sym c.fit-fits.ensures ∙ c.if-not-fits.true)) (refl, refl)
 
 pub on_fitting-requires : goal.on_fitting-requires
 on_fitting-requires c =
@@ -20,7 +20,6 @@ on_fitting-requires c =
       table_value = (
         c.requires.table_value,
         ap (λ (k : ℕ). fitting c.args.most k)
-            (sym c.places-places.ensures) ∙ sym c.fit-fits.ensures ∙ not-false _
-            c.if-not-fits.false,
+            (sym c.places-places.ensures) ∙ sym c.fit-fits.ensures ∙ c.if-not-fits.false,
       );
     }

@@ -16,7 +16,7 @@ returns-then-not-eight_free c =
     let l = c.loop-k in
     let a = c.args in
     sym (l.invariant.1 ∙ eight_used (place_of 8 a.at a.books.now) a.n l.k c.loop-k-test.true
-    (sym c.eight_free.ensures ∙ not-true _ c.if-not-eight_free.true))
+    (sym c.eight_free.ensures ∙ c.if-not-eight_free.true))
 
 pub loop-k-preserved : goal.loop-k-preserved
 loop-k-preserved c =
@@ -24,7 +24,7 @@ loop-k-preserved c =
     let a = c.args in (
       search rules,
       l.invariant.1 ∙ eight_more (place_of 8 a.at a.books.now) a.n l.k c.loop-k-test.true
-          (sym c.eight_free.ensures ∙ not-false _ c.if-not-eight_free.false),
+          (sym c.eight_free.ensures ∙ c.if-not-eight_free.false),
     )
 
 pub returns : goal.returns

@@ -7,15 +7,14 @@ use Rattle.sound.proofs.cast.cast_fits.Goals as goal
 
 pub returns-then-not-times_fit : goal.returns-then-not-times_fit
 unfolding cast_fits
-returns-then-not-times_fit c = rw (sym c.times_fit.ensures ∙ not-true c.times_fit.result c.if-not-times_fit.true)
+returns-then-not-times_fit c = rw (sym c.times_fit.ensures ∙ c.if-not-times_fit.true)
 
 pub returns-then-not-sets_fit : goal.returns-then-not-sets_fit
 unfolding cast_fits
 returns-then-not-sets_fit c =
     rw (
-      sym c.times_fit.ensures ∙ not-false c.times_fit.result
-          c.if-not-times_fit.false,
-      sym c.sets_fit.ensures ∙ not-true c.sets_fit.result c.if-not-sets_fit.true,
+      sym c.times_fit.ensures ∙ c.if-not-times_fit.false,
+      sym c.sets_fit.ensures ∙ c.if-not-sets_fit.true,
     )
 
 pub returns-then-not-live_confirmed : goal.returns-then-not-live_confirmed
@@ -23,11 +22,11 @@ unfolding cast_fits
 returns-then-not-live_confirmed c =
     rw (
       sym c.times_fit.ensures
-          ∙ not-false c.times_fit.result c.if-not-times_fit.false,
+          ∙ c.if-not-times_fit.false,
       sym c.sets_fit.ensures
-          ∙ not-false c.sets_fit.result c.if-not-sets_fit.false,
+          ∙ c.if-not-sets_fit.false,
       sym c.live_confirmed.ensures
-          ∙ not-true c.live_confirmed.result c.if-not-live_confirmed.true,
+          ∙ c.if-not-live_confirmed.true,
     )
 
 pub returns : goal.returns
@@ -35,10 +34,9 @@ unfolding cast_fits
 returns c =
     rw (
       sym c.times_fit.ensures
-          ∙ not-false c.times_fit.result
-          c.if-not-times_fit.false,
+          ∙ c.if-not-times_fit.false,
       sym c.sets_fit.ensures
-          ∙ not-false c.sets_fit.result c.if-not-sets_fit.false,
-      sym c.live_confirmed.ensures ∙ not-false c.live_confirmed.result c.if-not-live_confirmed.false,
+          ∙ c.if-not-sets_fit.false,
+      sym c.live_confirmed.ensures ∙ c.if-not-live_confirmed.false,
     )
     c.retries_sound.ensures

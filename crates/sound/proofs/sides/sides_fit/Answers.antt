@@ -10,16 +10,15 @@ pub returns-then-not-new_whole : goal.returns-then-not-new_whole
 returns-then-not-new_whole c =
     let v = c.args.v in
     sym (sides_order (providers_fit v) (new_whole v.new) (old_whole v.old) (cause_fits v.old) (canceller_fits v) (within_fits v)
-    ∙ rw (sym c.new_whole.ensures ∙ not-true c.new_whole.result c.if-not-new_whole.true))
+    ∙ rw (sym c.new_whole.ensures ∙ c.if-not-new_whole.true))
 
 pub returns-then-not-old_whole : goal.returns-then-not-old_whole
 returns-then-not-old_whole c =
     let v = c.args.v in
     sym (sides_order (providers_fit v) (new_whole v.new) (old_whole v.old) (cause_fits v.old) (canceller_fits v) (within_fits v)
     ∙ rw (
-      sym c.new_whole.ensures ∙ not-false c.new_whole.result
-          c.if-not-new_whole.false,
-      sym c.old_whole.ensures ∙ not-true c.old_whole.result c.if-not-old_whole.true,
+      sym c.new_whole.ensures ∙ c.if-not-new_whole.false,
+      sym c.old_whole.ensures ∙ c.if-not-old_whole.true,
     ))
 
 pub returns : goal.returns
@@ -33,7 +32,6 @@ returns c =
     )
     (sym (sides_order (providers_fit v) (new_whole v.new) (old_whole v.old) (cause_fits v.old) (canceller_fits v) (within_fits v)
     ∙ rw (
-      sym c.new_whole.ensures ∙ not-false c.new_whole.result
-          c.if-not-new_whole.false,
-      sym c.old_whole.ensures ∙ not-false c.old_whole.result c.if-not-old_whole.false,
+      sym c.new_whole.ensures ∙ c.if-not-new_whole.false,
+      sym c.old_whole.ensures ∙ c.if-not-old_whole.false,
     )))

@@ -24,7 +24,7 @@ returns-then-not-free c =
       arith,
       used_before _ _ c.requires.0 _
           (omega (arith, c.loop-n.invariant.1, c.loop-n-test.true))
-          (sym c.free.ensures ∙ not-true _ c.if-not-free.true),
+          (sym c.free.ensures ∙ c.if-not-free.true),
       c.loop-n.invariant.0,
     )
 
@@ -36,7 +36,7 @@ loop-n-smaller c = omega (arith, c.loop-n-test.true)
 
 pub loop-n-preserved : goal.loop-n-preserved
 loop-n-preserved c = (
-  free_from_lem _ _ c.requires.0 _ (sym c.free.ensures ∙ not-false _ c.if-not-free.false),
+  free_from_lem _ _ c.requires.0 _ (sym c.free.ensures ∙ c.if-not-free.false),
   omega (arith, c.loop-n.invariant.1),
 )
 

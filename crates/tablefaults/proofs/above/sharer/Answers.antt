@@ -12,7 +12,7 @@ use Rattle.tablefaults.proofs.above.sharer.Goals as goal
 pub returns-then-not-has : goal.returns-then-not-has
 returns-then-not-has c =
     let a = c.args in
-    sharer_none a.n a.t.now a.v a.i (sym c.has.ensures ∙ not-true c.has.result c.if-not-has.true)
+    sharer_none a.n a.t.now a.v a.i (sym c.has.ensures ∙ c.if-not-has.true)
 
 pub loop-j-init : goal.loop-j-init
 loop-j-init c = (omega arith, refl)
@@ -22,7 +22,7 @@ unfolding unpack
 returns-then-u-v c =
     let a = c.args in
     let h = c.has in
-    sharer-here a.n a.t.now a.v (sym h.ensures ∙ not-false h.result c.if-not-has.false) c.loop-j.j
+    sharer-here a.n a.t.now a.v (sym h.ensures ∙ c.if-not-has.false) c.loop-j.j
     c.loop-j-test.true _ c.load-u.ensures _
     c.has-in-loop-j.ensures c.if-u-v.true
     ∙ sym c.loop-j.invariant.1
@@ -34,7 +34,7 @@ loop-j-preserved c =
     let h = c.has in (
       omega arith,
       c.loop-j.invariant.1
-          ∙ sharer-next a.n a.t.now a.v (sym h.ensures ∙ not-false h.result c.if-not-has.false) c.loop-j.j
+          ∙ sharer-next a.n a.t.now a.v (sym h.ensures ∙ c.if-not-has.false) c.loop-j.j
           c.loop-j-test.true _ c.load-u.ensures _
           c.has-in-loop-j.ensures c.if-u-v.false,
     )
