@@ -44,7 +44,7 @@ returns-in-8 c = simp c.in-8.is
 pub returns-in_default : goal.returns-in_default
 returns-in_default c =
     let s = c.args.status in
-    let r = c.in_default.rest in
+    let r = c.in_default.in_default-own.rest in
     let h : 9 ≤ s = (above 8 s
     (above 7 s (above 6 s (above 5 s
     (above 4 s (above 3 s (above 2 s (above 1 s (above 0 s (omega arith) r.0.0.0.0.0.0.0.0.1) r.0.0.0.0.0.0.0.1)
