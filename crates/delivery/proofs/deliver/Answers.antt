@@ -6,10 +6,12 @@ use borrow.Author.Rules.{rules}
 use Rattle.delivery.proofs.deliver.Goals as goal
 
 pub run-requires : goal.run-requires
-run-requires c = one_asks c.args.mail _ c.requires.mail_len_bound c.requires.all _ c.in-One.is
+run-requires c =
+    let g = one_asks c.args.mail _ c.requires.mail_len_bound c.requires.all _ c.in-One.is in record { r_bound = g.0; all = g.1 }
 
 pub run-n-requires : goal.run-n-requires
-run-n-requires c = first_asks c.args.mail _ c.requires.mail_len_bound c.requires.all _ _ c.in-Two.is
+run-n-requires c =
+    let g = first_asks c.args.mail _ c.requires.mail_len_bound c.requires.all _ _ c.in-Two.is in record { r_bound = g.0; all = g.1 }
 
 pub run-requires-in-Two : goal.run-requires-in-Two
 run-requires-in-Two c =

@@ -12,7 +12,7 @@ returns-then-fields-ne-FIELDS c = handed_refused _ _ (λ q. omega arith)
 pub returns-in-Record : goal.returns-in-Record
 returns-in-Record c =
     let a = c.args in
-    handed_record (read_event a.bytes.now) c.in-Record.e a.fields.now c.store.new.1.0
+    handed_record (read_event a.bytes.now) c.in-Record.e a.fields.now c.store.new.fields
     (sym c.read-got.ensures ∙ c.in-Record.is) (omega (arith, c)) c.store.ensures
 
 pub returns-in-Malformed : goal.returns-in-Malformed

@@ -17,7 +17,7 @@ pub returns-then-well_formed : goal.returns-then-well_formed
 returns-then-well_formed c =
     let a = c.args in
     let w = c.pack-w.result in
-    written a.e a.out.now c.put_u64.new.0 c.put_u64-then-well_formed.new.0 c.put_u64-then-well_formed-2.new.0 w.first w.second w.third
+    written a.e a.out.now c.put_u64.new.s c.put_u64-then-well_formed.new.s c.put_u64-then-well_formed-2.new.s w.first w.second w.third
     (omega (arith, c)) (sym c.well_formed-2.ensures ∙ c.if-well_formed.true)
     c.pack-w.ensures (omega (arith, c.pack-w)) (omega (arith, c.pack-w))
     c.put_u64.ensures c.put_u64-then-well_formed.ensures c.put_u64-then-well_formed-2.ensures

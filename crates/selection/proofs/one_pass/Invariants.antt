@@ -1,7 +1,5 @@
 -- `selection::one_pass` meets its contract: each need is answered by the law of its turn (proofs/Turns).
 -- Assumes nothing.
--- where the loops begin, and what is known there
--- whether the code stands in a pair, as the partner that was found says
 use borrow.Author.Rules.{rules}
 use Prim.Native.Nat.{ℕ, ◌+◌, ◌-◌, ◌^◌, ◌≤◌, ◌<◌}
 use mathlib.Core.Path.{◌≡◌, sym, ap, ◌∙◌}

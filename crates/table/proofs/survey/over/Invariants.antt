@@ -18,24 +18,24 @@ use Rattle.table.proofs.survey.over.Given as goal
 abbrev pub invariant-loop-i : goal.invariant-loop-i
 invariant-loop-i l = (l.from ≤ l.i) × ((l.i ≤ l.to) × Adds (decode l.t) l.n l.number (slice l.i l.to (decode l.t))
     (record {
-      l.newest = l.initial.newest;
-      l.stamp = l.initial.stamp;
-      l.sends = l.initial.sends;
-      l.blocked = l.initial.blocked;
-      l.former = l.initial.former;
-      l.live = l.initial.live;
-      l.worked = l.initial.worked;
-      l.asked = l.initial.asked;
+      newest = l.initial.newest;
+      stamp = l.initial.stamp;
+      sends = l.initial.sends;
+      blocked = l.initial.blocked;
+      former = l.initial.former;
+      live = l.initial.live;
+      worked = l.initial.worked;
+      asked = l.initial.asked;
     })
     (record {
-      l.newest = l.newest;
-      l.stamp = l.stamp;
-      l.sends = l.sends;
-      l.blocked = l.blocked;
-      l.former = l.former;
-      l.live = l.live;
-      l.worked = l.worked;
-      l.asked = l.asked;
+      newest = l.newest;
+      stamp = l.stamp;
+      sends = l.sends;
+      blocked = l.blocked;
+      former = l.former;
+      live = l.live;
+      worked = l.worked;
+      asked = l.asked;
     }))
 
 abbrev pub decreases-loop-i : goal.decreases-loop-i
