@@ -3,4 +3,4 @@ use borrow.Author.Rules.{rules}
 use Rattle.judge.proofs.another_due.Goals as goal
 
 pub returns-in-One : goal.returns-in-One
-returns-in-One c = rw (c.in-One.is, c.before.fits2.ensures, c.agrees-same.ensures)
+returns-in-One c = rw (c.in-One.is, c.fits-concurs.ensures, c.agrees-same.ensures)

@@ -3,4 +3,4 @@ use borrow.Author.Rules.{rules}
 use Rattle.judge.proofs.unfit.Goals as goal
 
 pub returns-in-One : goal.returns-in-One
-returns-in-One c = rw (c.in-One.is, c.fits2.ensures)
+returns-in-One c = rw (c.in-One.is, c.fits.ensures)
