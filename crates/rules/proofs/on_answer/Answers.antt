@@ -11,13 +11,13 @@ returns-then-number-ne0 c =
 pub answered-requires : goal.answered-requires
 answered-requires c =
     let p = c.requires in record {
-      most_le_most_retries = (p.0.1, row_purpose _ p.0.2);
-      waits = answer_waits _ c.args.k.absent _ c.answer-o.result p.0.0 p.1.1 p.0.2 c.answer-o.ensures
+      most_le_most_retries = (p.e_value.1, row_purpose _ p.e_value.2);
+      waits = answer_waits _ c.args.k.absent _ c.answer-o.result p.e_value.0 p.asked_value.1 p.e_value.2 c.answer-o.ensures
           (done_by c.answer-o.result _ c.number.ensures c.if-number-ne0.false);
     }
 
 pub returns : goal.returns
 returns c =
     let p = c.requires in
-    answer_says _ _ _ _ _ p.1.0 _ p.1.1 c.answer-o.ensures
+    answer_says _ _ _ _ _ p.asked_value.0 _ p.asked_value.1 c.answer-o.ensures
     (done_by c.answer-o.result _ c.number.ensures c.if-number-ne0.false) _ c.answered.ensures

@@ -4,7 +4,7 @@ use borrow.Author.Rules.{rules}
 use Rattle.rules.proofs.on_other.Goals as goal
 
 pub other-o-requires : goal.other-o-requires
-other-o-requires c = let p = c.requires in grid_asks _ _ p.0.0 p.1.1 p.1.2 p.0.1
+other-o-requires c = let p = c.requires in grid_asks _ _ p.e_value.0 p.asked_value.1 p.asked_value.2 p.e_value.1
 
 pub returns-then-number-ne0 : goal.returns-then-number-ne0
 returns-then-number-ne0 c =
@@ -17,5 +17,5 @@ managed-requires c = row_purpose _ c.requires.e_value.1
 pub returns : goal.returns
 returns c =
     let p = c.requires in
-    other_says _ _ _ _ _ p.1.0 _ p.1.1 p.1.2 c.other-o.ensures
+    other_says _ _ _ _ _ p.asked_value.0 _ p.asked_value.1 p.asked_value.2 c.other-o.ensures
     (done_by c.other-o.result _ c.number.ensures c.if-number-ne0.false) _ c.managed.ensures
