@@ -19,7 +19,7 @@ use Rattle.model.specs.Record.{is_create, is_broadcast, well_formed}
 use Rattle.model.specs.Outcomes.{is_done, number_of}
 use Rattle.model.specs.Given.{Given, Result, with_number}
 use Rattle.model.specs.Step.{rule}
-use Rattle.model.proofs.Lists.{clash, nothing_some, keep_same, all_keep, all_first, head_of_lem}
+use Rattle.model.proofs.Lists.{clash, nothing_some, keep_same, all_keep, all_first, head_of}
 use Rattle.model.proofs.TableLaws.{rising_part}
 use Rattle.model.proofs.Apart.{rows_rows}
 use Rattle.model.proofs.Effects.{Modest, modest_rule}
@@ -98,10 +98,10 @@ tail_of_lem (with p ps) = ps
 may_change : (t : List Version) (n cap : ℕ) (free : Bool) (r : Rows) → length t ≡ n → free ≡ ltb n cap → Sits t free r
     → All (Brings Row) (changes_of r) → Applicable t n cap r
 may_change t n cap free Nothing c q s a = tt
-may_change t n cap free (Put v i) c q s a = over_held t n i v c s (head_of_lem a)
+may_change t n cap free (Put v i) c q s a = over_held t n i v c s (head_of a)
 may_change t n cap free (PutTwo v i w j) c q s a =
-    (over_held t n i v c s.0 (head_of_lem a), over_held t n j w c s.1 (head_of_lem (tail_of_lem a)))
-may_change t n cap free (Add v) c q s a = record { free = ltb-true n cap (sym q ∙ s.0); absent = s.1; small = row_small v (head_of_lem a) }
+    (over_held t n i v c s.0 (head_of a), over_held t n j w c s.1 (head_of (tail_of_lem a)))
+may_change t n cap free (Add v) c q s a = record { free = ltb-true n cap (sym q ∙ s.0); absent = s.1; small = row_small v (head_of a) }
 may_change t n cap free (Strike i k) c q s a = (let l : i < length t = s.0 in omega arith, s.1)
 
 small_of : {ms : List Message} → All Fits ms → All Small ms

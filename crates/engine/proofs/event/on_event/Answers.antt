@@ -13,8 +13,9 @@ surveyed-f-requires c =
 
 pub decide-v-requires : goal.decide-v-requires
 decide-v-requires c =
-    decide_asks c.args.marks _ c.args.most _ _ c.args.e _ c.requires.sound_table c.requires.ready.2 c.requires.ready.0 c.requires.ready.1
-    c.surveyed-f.result c.known-k.result c.surveyed-f.ensures c.known-k.ensures
+    let g = decide_asks c.args.marks _ c.args.most _ _ c.args.e _ c.requires.sound_table c.requires.ready.2 c.requires.ready.0
+    c.requires.ready.1 c.surveyed-f.result c.known-k.result c.surveyed-f.ensures c.known-k.ensures in
+    record { e_value = g.0; kept = g.1 }
 
 pub apply-requires : goal.apply-requires
 apply-requires c =
@@ -26,8 +27,9 @@ apply-requires c =
 
 pub deliver-count-requires : goal.deliver-count-requires
 deliver-count-requires c =
-    may_deliver c.args.marks _ c.args.most _ _ c.args.e _ c.requires.sound_table c.requires.ready.2 c.requires.ready.0 c.requires.ready.1
-    c.surveyed-f.result c.known-k.result c.surveyed-f.ensures c.known-k.ensures c.decide-v.result c.decide-v.ensures
+    let g = may_deliver c.args.marks _ c.args.most _ _ c.args.e _ c.requires.sound_table c.requires.ready.2 c.requires.ready.0
+    c.requires.ready.1 c.surveyed-f.result c.known-k.result c.surveyed-f.ensures c.known-k.ensures c.decide-v.result c.decide-v.ensures in
+    record { mail_len_bound = g.0; all = g.1 }
 
 pub returns : goal.returns
 returns c =
