@@ -9,7 +9,7 @@ use Rattle.batch.proofs.run.Goals as goal
 pub on_table-requires : goal.on_table-requires
 on_table-requires c =
     let e = sym c.lent-verdict.ensures ∙ c.in-Sound.is in
-    let z = c.type_inv.table in
+    let z = c.slice_known-1.given in
     record { sound_table = lent_table _ _ _ _ (λ i. let f = z i in search rules) e; table_value = e }
 
 pub returns-in-Sound : goal.returns-in-Sound
