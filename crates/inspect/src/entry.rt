@@ -101,14 +101,14 @@ fn text(clause: u64, about: u64) -> u64 {
     clause
 }
 
-pub fn say(f: Fault, providers: &[u8], books: &[u8]) {
+pub fn say(out: &impl Print, f: Fault, providers: &[u8], books: &[u8]) {
     if f.place == 0 {
-        texts::of_books(f.clause, books.len() as u64);
+        texts::of_books(out, f.clause, books.len() as u64);
         return;
     }
     let i = (f.place - 1) as usize;
     let e = held(f.clause, i, providers, books);
-    texts::of_entry(f.clause, f.place, e.first, e.last);
+    texts::of_entry(out, f.clause, f.place, e.first, e.last);
     let number = about(f, e);
-    texts::of_books(text(f.clause, number), number);
+    texts::of_books(out, text(f.clause, number), number);
 }

@@ -11,6 +11,7 @@ ghost use Rattle.std.specs.Prelude.{◌≡◌, length};
 use faults::Fault;
 use model::limit;
 use scan::Soundness;
+use std::rt::{Env, Files};
 use words::ROW;
 
 // A table of 4,096 rows, a provider list and books, and a byte more each: what is longer is told as it is.
@@ -26,41 +27,41 @@ fn free_rows() -> [u8; TABLE]
     [0; TABLE]
 }
 
-fn say_sound(table: &[u8]) {
+fn say_sound(out: &impl Print, table: &[u8]) {
     let verdict = scan::verdict(table);
     let rows = (table.len() / ROW) as u64;
     match verdict {
         Soundness::Sound { used } => {
-            texts::put_line(b"sound: # of # rows used", 0, used as u64, rows);
-            texts::put(b"\n");
+            texts::put_line(out, b"sound: # of # rows used", 0, used as u64, rows);
+            texts::put(out, b"\n");
         }
         Soundness::Unsound => {}
     }
 }
 
 // Provider list and books first, since the table's fault may be theirs.
-fn inspect(table: &[u8], providers: &[u8], books: &[u8]) {
+fn inspect(out: &impl Print, table: &[u8], providers: &[u8], books: &[u8]) {
     let of_books = unsound::books(providers, books);
     let of_table = unsound::table(table, providers, books);
     if of_books.clause != 0 {
-        entry::say(of_books, providers, books);
+        entry::say(out, of_books, providers, books);
     }
     if of_table.clause == 0 {
-        say_sound(table);
+        say_sound(out, table);
     }
     if of_table.clause != 0 && of_table.clause != 32 {
-        version::say(of_table, table);
+        version::say(out, of_table, table);
     }
 }
 
 // Reads the three files, and goes on if all of them were read.
-fn run() {
+fn run(rt: &(impl Env + Files + Print), errors: &impl Print) {
     let mut table = free_rows();
     let mut providers = [0u8; PROVIDERS];
     let mut books = [0u8; BOOKS];
-    let t = files::load(1, &mut table);
-    let p = files::load(2, &mut providers);
-    let b = files::load(3, &mut books);
+    let t = files::load(rt, errors, 1, &mut table);
+    let p = files::load(rt, errors, 2, &mut providers);
+    let b = files::load(rt, errors, 3, &mut books);
     if t > TABLE {
         return;
     }
@@ -70,13 +71,14 @@ fn run() {
     if b > BOOKS {
         return;
     }
-    inspect(&table[..t], &providers[..p], &books[..b]);
+    inspect(rt, &table[..t], &providers[..p], &books[..b]);
 }
 
-fn main() {
-    if os::arg_count() != 4 {
-        files::say(b"usage: inspect TABLE PROVIDERS BOOKS");
+fn main(rt: HostRuntime) {
+    let errors = rt.stderr();
+    if !files::is_given(&rt, 3) || files::is_given(&rt, 4) {
+        files::say(&errors, b"usage: inspect TABLE PROVIDERS BOOKS");
         return;
     }
-    run();
+    run(&rt, &errors);
 }

@@ -1,18 +1,16 @@
 // What is said of a fault: a line of text for each clause, by its number, with a '#' for each number that it names. docs/FAULTS.md has them
 // all.
-use libc::STDOUT_FILENO;
-
-pub fn put(text: &[u8]) {
-    io::write_all(STDOUT_FILENO, text);
+pub fn put(out: &impl Print, text: &[u8]) {
+    let _ = out.write_all(text);
 }
 
 // A byte, or the next number where it is '#'; the number for the '#' behind it.
-fn put_filled(b: u8, next: u64, last: u64) -> u64 {
+fn put_filled(out: &impl Print, b: u8, next: u64, last: u64) -> u64 {
     if b == b'#' {
-        io::print_decimal(STDOUT_FILENO, next);
+        let _ = out.print(next);
         return last;
     }
-    put(&[b]);
+    put(out, &[b]);
     next
 }
 
@@ -24,32 +22,30 @@ pub struct At {
 }
 
 // A byte of the line that is looked for; where the writing is behind it.
-fn put_found(b: u8, at: At, place: u64, last: u64) -> At {
+fn put_found(out: &impl Print, b: u8, at: At, place: u64, last: u64) -> At {
     if b == b'\n' {
         return At {
-            line: std::num::wrapping_add_u64(at.line, 1),
+            line: at.line.wrapping_add(1),
             next: at.next,
         };
     }
     if at.line == place {
         return At {
             line: at.line,
-            next: put_filled(b, at.next, last),
+            next: put_filled(out, b, at.next, last),
         };
     }
     at
 }
 
 // The line at a place of a text, from 0, without its end, and with a number for each '#': the first for the first, the last for any other.
-pub fn put_line(text: &[u8], place: u64, first: u64, last: u64) {
+pub fn put_line(out: &impl Print, text: &[u8], place: u64, first: u64, last: u64) {
     let mut at = At {
         line: 0,
         next: first,
     };
-    let mut i: usize = 0;
-    while i < text.len() {
-        at = put_found(text[i], at, place, last);
-        i += 1;
+    for b in text {
+        at = put_found(out, *b, at, place, last);
     }
 }
 
@@ -64,8 +60,9 @@ pub const TWO_PROVIDERS: u64 = 40;
 pub const WINDOW_MARKED: u64 = 41;
 
 // Without the end of the line.
-pub fn of_row(clause: u64, about: u64, with: u64) {
+pub fn of_row(out: &impl Print, clause: u64, about: u64, with: u64) {
     put_line(
+        out,
         b"\n\
         # bytes are no whole rows of 80\n\
         # bytes are more than 4,096 rows\n\
@@ -114,9 +111,9 @@ pub fn of_row(clause: u64, about: u64, with: u64) {
     );
 }
 
-pub fn of_table(clause: u64, about: u64, with: u64) {
-    of_row(clause, about, with);
-    put(b"\n");
+pub fn of_table(out: &impl Print, clause: u64, about: u64, with: u64) {
+    of_row(out, clause, about, with);
+    put(out, b"\n");
 }
 
 // Of provider list and books, likewise; the last two lines are of numbers that are no provider's, in clauses 10 and 7.
@@ -124,8 +121,9 @@ pub const NO_PROVIDER: u64 = 17;
 
 pub const NO_OWNER: u64 = 18;
 
-pub fn of_books(clause: u64, about: u64) {
+pub fn of_books(out: &impl Print, clause: u64, about: u64) {
     put_line(
+        out,
         b"\n\
         provider list: more than 63 bytes\n\
         the byte is #, not 0, 1 or 3\n\
@@ -149,15 +147,16 @@ pub fn of_books(clause: u64, about: u64) {
         about,
         0,
     );
-    put(b"\n");
+    put(out, b"\n");
 }
 
 // The entry at fault: its list and place, and what it holds.
-pub fn of_entry(clause: u64, place: u64, first: u64, last: u64) {
+pub fn of_entry(out: &impl Print, clause: u64, place: u64, first: u64, last: u64) {
     let list = if clause <= 4 { 0 } else { (clause - 1) / 4 };
-    put_line(b"provider \ncode \nfilter \npair ", list, 0, 0);
-    io::print_decimal(STDOUT_FILENO, place);
+    put_line(out, b"provider \ncode \nfilter \npair ", list, 0, 0);
+    let _ = out.print(place);
     put_line(
+        out,
         b": \n (#, owner #): \n (#, #): \n (#, #): \n",
         list,
         first,

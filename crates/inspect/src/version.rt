@@ -32,48 +32,54 @@ fn half(clause: u64, v: Version) -> u64 {
 }
 
 // The row's name.
-fn put_name(place: u64, v: Version) {
-    texts::put_line(b"row #: ", 0, place, 0);
-    texts::put_line(b"TN # version #: ", 0, v.id.tn.0, v.id.number as u64);
+fn put_name(out: &impl Print, place: u64, v: Version) {
+    texts::put_line(out, b"row #: ", 0, place, 0);
+    texts::put_line(out, b"TN # version #: ", 0, v.id.tn.0, v.id.number as u64);
 }
 
 // A clause of a row, with its values.
-fn say_row(f: Fault, v: Version) {
-    put_name(f.place, v);
+fn say_row(out: &impl Print, f: Fault, v: Version) {
+    put_name(out, f.place, v);
     let status = v.status as u64;
     if f.second != 0 {
-        texts::of_table(f.clause, f.second, 0);
+        texts::of_table(out, f.clause, f.second, 0);
         return;
     }
     let clause = f.clause;
     match clause {
-        14 => texts::of_table(half(14, v), v.new.provider as u64, v.old.provider as u64),
-        19 => texts::of_table(19, v.old.cause as u64, v.old.authorization as u64),
-        24 | 26 | 37 => texts::of_table(half(clause, v), status, 0),
-        _ => texts::of_table(clause, about(clause, v), status),
+        14 => texts::of_table(
+            out,
+            half(14, v),
+            v.new.provider as u64,
+            v.old.provider as u64,
+        ),
+        19 => texts::of_table(out, 19, v.old.cause as u64, v.old.authorization as u64),
+        24 | 26 | 37 => texts::of_table(out, half(clause, v), status, 0),
+        _ => texts::of_table(out, clause, about(clause, v), status),
     }
 }
 
 // A clause of a row and an earlier one of its line, which has another TN: both are named.
-fn say_line(f: Fault, v: Version, other: Version) {
-    put_name(f.place, v);
-    texts::of_row(f.clause, f.second, 0);
+fn say_line(out: &impl Print, f: Fault, v: Version, other: Version) {
+    put_name(out, f.place, v);
+    texts::of_row(out, f.clause, f.second, 0);
     texts::put_line(
+        out,
         b", TN # version #",
         0,
         other.id.tn.0,
         other.id.number as u64,
     );
-    texts::put(b"\n");
+    texts::put(out, b"\n");
 }
 
-fn say_beside(f: Fault, v: Version, table: &[u8]) {
+fn say_beside(out: &impl Print, f: Fault, v: Version, table: &[u8]) {
     if f.second == 0 {
         return;
     }
     let j = (f.second - 1) as usize;
     if j < table.len() / ROW {
-        say_line(f, v, rows::load(table, j));
+        say_line(out, f, v, rows::load(table, j));
     }
 }
 
@@ -82,19 +88,19 @@ const LINE: u64 = 33;
 
 const LAST_LINE: u64 = 36;
 
-pub fn say(f: Fault, table: &[u8]) {
+pub fn say(out: &impl Print, f: Fault, table: &[u8]) {
     if f.place == 0 {
-        texts::put(b"table: ");
-        texts::of_table(f.clause, table.len() as u64, 0);
+        texts::put(out, b"table: ");
+        texts::of_table(out, f.clause, table.len() as u64, 0);
         return;
     }
     let i = (f.place - 1) as usize;
     if i < table.len() / ROW {
         let v = rows::load(table, i);
         if LINE <= f.clause && f.clause <= LAST_LINE {
-            say_beside(f, v, table);
+            say_beside(out, f, v, table);
             return;
         }
-        say_row(f, v);
+        say_row(out, f, v);
     }
 }
