@@ -1,5 +1,6 @@
 // What the arguments ask for: a TN, or the event at a place of a file.
 use crate::{event, files};
+use std::rt::{Env, Files};
 
 pub const PROVIDERS: usize = 1;
 
@@ -32,25 +33,24 @@ pub fn none() -> Question {
     }
 }
 
-fn is_word(text: &[u8]) -> bool {
-    let mut word = io::buffer();
-    let n = os::arg(WORD, &mut word);
-    check::same(&word[..n], text)
+fn is_word(rt: &impl Env, text: &[u8]) -> bool {
+    let mut word = [0u8; 16];
+    let n = files::argument(rt, WORD, &mut word);
+    &word[..n] == text
 }
 
 // Whether there are as many arguments as the word in their middle asks for.
-pub fn fits() -> bool {
-    match os::arg_count() {
-        5 => is_word(b"tn") || is_word(b"event"),
-        6 => is_word(b"event"),
-        _ => false,
+pub fn fits(rt: &impl Env) -> bool {
+    if !files::is_given(rt, TN) || files::is_given(rt, PLACE + 1) {
+        return false;
     }
+    is_word(rt, b"event") || !files::is_given(rt, PLACE) && is_word(rt, b"tn")
 }
 
 // The TN that ten digits are; what is none is told with the answer.
-fn of_tn() -> Question {
+fn of_tn(rt: &impl Env) -> Question {
     let mut text = [0u8; 10];
-    let n = os::arg(TN, &mut text);
+    let n = files::argument(rt, TN, &mut text);
     Question {
         asked: true,
         kind: 0,
@@ -60,20 +60,24 @@ fn of_tn() -> Question {
 }
 
 // The event at the place that the last argument names, or in a file of one.
-fn of_event() -> Question {
-    if os::arg_count() < 6 {
-        return event::alone();
+fn of_event(rt: &(impl Env + Files), errors: &impl Print) -> Question {
+    if !files::is_given(rt, PLACE) {
+        return event::alone(rt, errors);
     }
     let mut text = [0u8; 20];
-    let n = os::arg(PLACE, &mut text);
+    let n = files::argument(rt, PLACE, &mut text);
     let place = decimal::number(&text[..n]);
     if place == 0 {
-        files::say_of(PLACE, b"no place: they are counted from 1");
+        files::say_of(rt, errors, PLACE, b"no place: they are counted from 1");
         return none();
     }
-    event::at(place)
+    event::at(rt, errors, place)
 }
 
-pub fn ask() -> Question {
-    if is_word(b"tn") { of_tn() } else { of_event() }
+pub fn ask(rt: &(impl Env + Files), errors: &impl Print) -> Question {
+    if is_word(rt, b"tn") {
+        of_tn(rt)
+    } else {
+        of_event(rt, errors)
+    }
 }
