@@ -59,56 +59,53 @@ pub const TWO_PROVIDERS: u64 = 40;
 
 pub const WINDOW_MARKED: u64 = 41;
 
+// The lines of a table, from clause 0.
+const TABLE_LINES: &[u8] = b"\n\
+    # bytes are no whole rows of 80\n\
+    # bytes are more than 4,096 rows\n\
+    used, and row # before it is free\n\
+    a spare bit is set\n\
+    no TN\n\
+    version number 0\n\
+    status # is none\n\
+    stamp 0\n\
+    new provider 0\n\
+    old provider 0\n\
+    canceller 3 is neither side\n\
+    a set has bit 0, which is nobody's\n\
+    the highest bit of a word of retries is set, which is nobody's\n\
+    new and old provider are both #\n\
+    the new side's due date and LRN do not go with its having created or not\n\
+    the old side's due date and authorization do not go with its having created or not\n\
+    neither side has created\n\
+    a side that status # needs has not created\n\
+    cause # with authorization #\n\
+    canceller # in status #\n\
+    a system stands in two of the sets confirmed, waiting and failed\n\
+    retries are used by a system that is not waiting\n\
+    broadcast start # in status #\n\
+    systems wait in status #\n\
+    purpose # in status #\n\
+    live in status #\n\
+    live by activate with a waiting or failed system, and no confirmed one\n\
+    not above row #\n\
+    a second live version of its TN beside row #\n\
+    a second sending version of its TN beside row #\n\
+    a second worked version of its TN beside row #\n\
+    \n\
+    a second live version of its line beside row #\n\
+    a second sending version of its line beside row #\n\
+    a second worked version of its line beside row #\n\
+    the number stands twice in its line, beside row #\n\
+    within one provider, and the old side has created\n\
+    not live in status #\n\
+    nobody waits in status #\n\
+    within one provider, but the new provider is # and the old #\n\
+    within one provider, and the window mark is set";
+
 // Without the end of the line.
 pub fn of_row(out: &impl Print, clause: u64, about: u64, with: u64) {
-    put_line(
-        out,
-        b"\n\
-        # bytes are no whole rows of 80\n\
-        # bytes are more than 4,096 rows\n\
-        used, and row # before it is free\n\
-        a spare bit is set\n\
-        no TN\n\
-        version number 0\n\
-        status # is none\n\
-        stamp 0\n\
-        new provider 0\n\
-        old provider 0\n\
-        canceller 3 is neither side\n\
-        a set has bit 0, which is nobody's\n\
-        the highest bit of a word of retries is set, which is nobody's\n\
-        new and old provider are both #\n\
-        the new side's due date and LRN do not go with its having created or not\n\
-        the old side's due date and authorization do not go with its having created or not\n\
-        neither side has created\n\
-        a side that status # needs has not created\n\
-        cause # with authorization #\n\
-        canceller # in status #\n\
-        a system stands in two of the sets confirmed, waiting and failed\n\
-        retries are used by a system that is not waiting\n\
-        broadcast start # in status #\n\
-        systems wait in status #\n\
-        purpose # in status #\n\
-        live in status #\n\
-        live by activate with a waiting or failed system, and no confirmed one\n\
-        not above row #\n\
-        a second live version of its TN beside row #\n\
-        a second sending version of its TN beside row #\n\
-        a second worked version of its TN beside row #\n\
-        \n\
-        a second live version of its line beside row #\n\
-        a second sending version of its line beside row #\n\
-        a second worked version of its line beside row #\n\
-        the number stands twice in its line, beside row #\n\
-        within one provider, and the old side has created\n\
-        not live in status #\n\
-        nobody waits in status #\n\
-        within one provider, but the new provider is # and the old #\n\
-        within one provider, and the window mark is set",
-        clause,
-        about,
-        with,
-    );
+    put_line(out, TABLE_LINES, clause, about, with);
 }
 
 pub fn of_table(out: &impl Print, clause: u64, about: u64, with: u64) {
@@ -121,32 +118,29 @@ pub const NO_PROVIDER: u64 = 17;
 
 pub const NO_OWNER: u64 = 18;
 
+// The lines of provider list and books, from clause 0.
+const BOOKS_LINES: &[u8] = b"\n\
+    provider list: more than 63 bytes\n\
+    the byte is #, not 0, 1 or 3\n\
+    books: # bytes, not 8,712\n\
+    books: the first eight bytes are not zero\n\
+    used, and place # before it is free\n\
+    no code\n\
+    owner # is absent\n\
+    not above code #\n\
+    used, and place # before it is free\n\
+    provider # is absent\n\
+    no code\n\
+    not above filter #\n\
+    used, and place # before it is free\n\
+    one of its codes is none\n\
+    both codes are the same\n\
+    one of its codes stands in pair #\n\
+    provider # is none\n\
+    owner # is none";
+
 pub fn of_books(out: &impl Print, clause: u64, about: u64) {
-    put_line(
-        out,
-        b"\n\
-        provider list: more than 63 bytes\n\
-        the byte is #, not 0, 1 or 3\n\
-        books: # bytes, not 8,712\n\
-        books: the first eight bytes are not zero\n\
-        used, and place # before it is free\n\
-        no code\n\
-        owner # is absent\n\
-        not above code #\n\
-        used, and place # before it is free\n\
-        provider # is absent\n\
-        no code\n\
-        not above filter #\n\
-        used, and place # before it is free\n\
-        one of its codes is none\n\
-        both codes are the same\n\
-        one of its codes stands in pair #\n\
-        provider # is none\n\
-        owner # is none",
-        clause,
-        about,
-        0,
-    );
+    put_line(out, BOOKS_LINES, clause, about, 0);
     put(out, b"\n");
 }
 

@@ -1,3 +1,5 @@
+-- `inspect::files::fill` meets its contract: no more bytes are read than buf has, and the measure is how many it still lacks.
+-- Assumes nothing.
 use Rattle.std.proofs.Common.{length, ◌-◌, ◌≤◌}
 use Rattle.inspect.proofs.files.fill.Given as goal
 
