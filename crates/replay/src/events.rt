@@ -114,13 +114,11 @@ fn put_answer(rt: &HostRuntime, out: &Output, place: u64, answers: &[u8], i: usi
 // The lines of a run; the place behind its last event, or 0.
 fn put_answers(rt: &HostRuntime, out: &Output, first: u64, answers: &[u8], count: usize) -> u64 {
     let mut place = first;
-    let mut i: usize = 0;
-    while i < count {
+    for i in 0..count {
         place = put_answer(rt, out, place, answers, i);
         if place == 0 {
             return 0;
         }
-        i += 1;
     }
     place
 }
@@ -281,8 +279,7 @@ pub fn each(
     tally: &mut [u64; summary::NUMBERS],
 ) -> u64 {
     let mut place = from;
-    let mut turns = MOST_EVENTS;
-    while turns > 0 {
+    for _ in 0..MOST_EVENTS {
         let behind = next(rt, place, s, table, providers, books, most, tally);
         if behind == 0 {
             return 0;
@@ -292,7 +289,6 @@ pub fn each(
         }
         tell(rt, place, behind, s.whole);
         place = behind;
-        turns -= 1;
     }
     0
 }

@@ -28,10 +28,8 @@ fn outcome_at(answers: &[u8], i: usize) -> u64 {
 
 // The events of a run.
 pub fn count_run(tally: &mut [u64; NUMBERS], answers: &[u8], events: usize) {
-    let mut i: usize = 0;
-    while i < events {
+    for i in 0..events {
         count(tally, outcome_at(answers, i));
-        i += 1;
     }
 }
 
@@ -78,9 +76,7 @@ fn counted(tally: &[u64; NUMBERS], outcome: usize) -> u64 {
 // How many were done, and a line for each number that an event was refused with.
 pub fn say(rt: &HostRuntime, tally: &[u64; NUMBERS]) {
     names::put_with(rt, b"done #\n", counted(tally, 0), 0);
-    let mut outcome: usize = 1;
-    while outcome < NUMBERS {
+    for outcome in 1..NUMBERS {
         say_refused(rt, outcome, counted(tally, outcome));
-        outcome += 1;
     }
 }
