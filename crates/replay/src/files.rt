@@ -1,5 +1,5 @@
 // The inputs that the arguments name.
-ghost use Rattle.std.specs.Prelude.{◌≤◌, length};
+ghost use Rattle.replay.specs.Counts.{IsPrefixLen};
 
 use crate::names;
 use crate::names::{BOOKS, EVENTS, PROVIDERS, TABLE};
@@ -58,7 +58,7 @@ pub fn open(rt: &HostRuntime, place: usize) -> Option<File> {
 
 // Reads until buf is full, the input ends or a read fails, and how many bytes it put at the start of buf.
 pub fn read_full(mut input: &File, buf: &mut [u8]) -> usize
-    ensures { result ≤ length buf.new }
+    ensures { IsPrefixLen result buf.new }
 {
     let mut done: usize = 0;
     while done < buf.len() {

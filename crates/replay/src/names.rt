@@ -1,6 +1,7 @@
 // The arguments by their places behind the options, the names that they are, and what is said of them on standard error: each line of an
 // error begins with 'replay: '.
-ghost use Rattle.std.specs.Prelude.{◌≡◌, ◌≤◌, length, IfOk};
+ghost use Rattle.std.specs.Prelude.{◌≡◌, length, IfOk};
+ghost use Rattle.replay.specs.Counts.{IsPrefixLen};
 
 use std::env::{Env, FillError};
 use std::io;
@@ -65,7 +66,7 @@ pub fn arg_count(rt: &HostRuntime) -> usize {
 
 // The i-th argument, from the program's own name, at the start of buf, and its length; an error where it is missing or too long.
 fn found(rt: &HostRuntime, i: usize, buf: &mut [u8]) -> io::Result<usize>
-    ensures { IfOk result (λ n. n ≤ length buf.new) }
+    ensures { IfOk result (λ n. IsPrefixLen n buf.new) }
 {
     match rt.arg(i, buf) {
         Ok(n) => Ok(n),
@@ -76,7 +77,7 @@ fn found(rt: &HostRuntime, i: usize, buf: &mut [u8]) -> io::Result<usize>
 
 // The same, and 0 where it is missing or too long.
 pub fn arg(rt: &HostRuntime, i: usize, buf: &mut [u8]) -> usize
-    ensures { result ≤ length buf.new }
+    ensures { IsPrefixLen result buf.new }
 {
     match found(rt, i, buf) {
         Ok(n) => n,
@@ -95,14 +96,14 @@ fn options(rt: &HostRuntime) -> usize {
 
 // The argument at a place, at the start of buf, and its length; 0 also where it is too long.
 pub fn name(rt: &HostRuntime, place: usize, buf: &mut [u8]) -> usize
-    ensures { result ≤ length buf.new }
+    ensures { IsPrefixLen result buf.new }
 {
     arg(rt, place.wrapping_add(options(rt)), buf)
 }
 
 // The same, and an error where it is too long.
 pub fn whole_name(rt: &HostRuntime, place: usize, buf: &mut [u8]) -> io::Result<usize>
-    ensures { IfOk result (λ n. n ≤ length buf.new) }
+    ensures { IfOk result (λ n. IsPrefixLen n buf.new) }
 {
     found(rt, place.wrapping_add(options(rt)), buf)
 }
@@ -117,7 +118,7 @@ pub fn text(name: &[u8]) -> io::Result<&str> {
 
 // '.part' behind the first n bytes, and the length with it; 0 where it does not fit.
 fn put_part(path: &mut [u8], n: usize) -> usize
-    ensures { result ≤ length path.new }
+    ensures { IsPrefixLen result path.new }
 {
     if path.len() < 5 {
         return 0;
@@ -135,7 +136,7 @@ fn put_part(path: &mut [u8], n: usize) -> usize
 
 // The name of an output's part: where it is written until it is whole.
 pub fn part(rt: &HostRuntime, place: usize, buf: &mut [u8]) -> usize
-    ensures { result ≤ length buf.new }
+    ensures { IsPrefixLen result buf.new }
 {
     let n = name(rt, place, buf);
     put_part(buf, n)
