@@ -3,10 +3,13 @@
 ghost use Rattle.std.specs.Prelude.{◌≡◌, length};
 
 use crate::names::{EVENTS, MESSAGES, OUTCOMES};
-use crate::{files, names, summary};
+use crate::parts::Output;
+use crate::{files, names, parts, summary};
 use batch::Ran;
 use model::limit;
 use record::RECORD;
+use std::fs::File;
+use std::io;
 use tray::MESSAGE_SIZE;
 
 // The messages that find room: 64 for each of the 1,024 records that are read at once.
@@ -22,38 +25,36 @@ const MOST_SHARED: u64 = 184_467_440_737_095_516;
 
 // The events, how many there are (0: not known), and what is written while they are replayed.
 #[derive(Clone, Copy)]
-pub struct Streams {
-    pub input: i32,
+pub struct Streams<'a> {
+    pub input: &'a File,
     pub whole: u64,
-    pub outcomes: i32,
-    pub messages: i32,
+    pub outcomes: &'a Output,
+    pub messages: &'a Output,
 }
 
-fn put_next(fd: i32, n: u64) -> bool {
-    let spaced = io::write_all(fd, b" ");
-    let put = io::print_decimal(fd, n);
-    spaced & put
+fn put_next(out: &Output, n: u64) -> io::Result<()> {
+    parts::put(out, b" ")?;
+    parts::put_number(out, n)
 }
 
 // A line: place from 1, outcome, message count.
-fn put_line(fd: i32, place: u64, outcome: u64, count: u64) -> bool {
-    let first = io::print_decimal(fd, place);
-    let second = put_next(fd, outcome);
-    let third = put_next(fd, count);
-    let end = io::write_all(fd, b"\n");
-    first & second & third & end
+fn put_line(out: &Output, place: u64, outcome: u64, count: u64) -> io::Result<()> {
+    parts::put_number(out, place)?;
+    put_next(out, outcome)?;
+    put_next(out, count)?;
+    parts::put(out, b"\n")
 }
 
 // The first `count` places of the tray.
-fn put_messages(fd: i32, tray: &[u8], count: u64) -> bool {
+fn put_messages(out: &Output, tray: &[u8], count: u64) -> io::Result<()> {
     if count > TRAY_PLACES {
-        return false;
+        return Err(io::Error::from(io::ErrorKind::InvalidInput));
     }
     let n = count as usize * MESSAGE_SIZE;
     if n > tray.len() {
-        return false;
+        return Err(io::Error::from(io::ErrorKind::InvalidInput));
     }
-    io::write_all(fd, &tray[..n])
+    parts::put(out, &tray[..n])
 }
 
 // How many hundredths n of the whole are.
@@ -69,16 +70,16 @@ fn share(n: u64, whole: u64) -> u64 {
 
 // The events from a place on, to the place behind, are done: a line where a multiple of PROGRESS is among them, with its share of the
 // whole where that is known.
-fn tell(place: u64, behind: u64, whole: u64) {
-    let n = std::num::wrapping_sub_u64(behind, 1) / PROGRESS;
-    if n == std::num::wrapping_sub_u64(place, 1) / PROGRESS {
+fn tell(rt: &HostRuntime, place: u64, behind: u64, whole: u64) {
+    let n = behind.wrapping_sub(1) / PROGRESS;
+    if n == place.wrapping_sub(1) / PROGRESS {
         return;
     }
     let done = n * PROGRESS;
     if whole > 0 {
-        names::put_with(b"# events, # percent\n", done, share(done, whole));
+        names::put_with(rt, b"# events, # percent\n", done, share(done, whole));
     } else {
-        names::put_with(b"# events\n", done, 0);
+        names::put_with(rt, b"# events\n", done, 0);
     }
 }
 
@@ -87,56 +88,66 @@ pub fn wide(b: u8) -> u64 {
 }
 
 // The line of an event; the place behind it, or 0.
-fn put_event(fd: i32, place: u64, outcome: u64, count: u64) -> u64 {
+fn put_event(rt: &HostRuntime, out: &Output, place: u64, outcome: u64, count: u64) -> u64 {
     if place >= MOST_EVENTS {
         return 0;
     }
-    if !put_line(fd, place, outcome, count) {
-        names::fail_of(OUTCOMES);
-        return 0;
+    match put_line(out, place, outcome, count) {
+        Ok(()) => place + 1,
+        Err(why) => {
+            names::fail_of(rt, OUTCOMES, why);
+            0
+        }
     }
-    place + 1
 }
 
 // The line of the i-th event of a run: outcome and count stand in two bytes.
-fn put_answer(fd: i32, place: u64, answers: &[u8], i: usize) -> u64 {
+fn put_answer(rt: &HostRuntime, out: &Output, place: u64, answers: &[u8], i: usize) -> u64 {
     if i >= answers.len() / 2 {
         return 0;
     }
     let outcome = wide(answers[2 * i]);
     let count = wide(answers[2 * i + 1]);
-    put_event(fd, place, outcome, count)
+    put_event(rt, out, place, outcome, count)
 }
 
 // The lines of a run; the place behind its last event, or 0.
-fn put_answers(fd: i32, first: u64, answers: &[u8], count: usize) -> u64 {
+fn put_answers(rt: &HostRuntime, out: &Output, first: u64, answers: &[u8], count: usize) -> u64 {
     let mut place = first;
-    let mut i: usize = 0;
-    while i < count {
-        place = put_answer(fd, place, answers, i);
+    for i in 0..count {
+        place = put_answer(rt, out, place, answers, i);
         if place == 0 {
             return 0;
         }
-        i += 1;
     }
     place
 }
 
 // What a run of `count` events has left: their lines, and their messages. The place behind the last, or 0.
-fn put_run(place: u64, s: Streams, ran: Ran, count: usize, answers: &[u8], tray: &[u8]) -> u64 {
+fn put_run(
+    rt: &HostRuntime,
+    place: u64,
+    s: Streams<'_>,
+    ran: Ran,
+    count: usize,
+    answers: &[u8],
+    tray: &[u8],
+) -> u64 {
     if ran.events != count as u64 {
-        names::say(b"refused what was checked");
+        names::say(rt, b"refused what was checked");
         return 0;
     }
-    let behind = put_answers(s.outcomes, place, answers, count);
+    let behind = put_answers(rt, s.outcomes, place, answers, count);
     if behind == 0 {
         return 0;
     }
-    if !put_messages(s.messages, tray, ran.messages) {
-        names::fail_of(MESSAGES);
-        return 0;
+    match put_messages(s.messages, tray, ran.messages) {
+        Ok(()) => behind,
+        Err(why) => {
+            names::fail_of(rt, MESSAGES, why);
+            0
+        }
     }
-    behind
 }
 
 // So large that one run takes all records that were read: a run stops where fewer than 64 places are left.
@@ -148,8 +159,9 @@ fn empty_tray() -> [u8; 1572864]
 
 // Whole records; the place behind them, or 0.
 fn whole(
+    rt: &HostRuntime,
     place: u64,
-    s: Streams,
+    s: Streams<'_>,
     table: &mut [u8],
     providers: &[u8],
     books: &[u8],
@@ -170,12 +182,13 @@ fn whole(
     );
     let count = events.len() / RECORD;
     summary::count_run(tally, &answers, count);
-    put_run(place, s, ran, count, &answers, &tray)
+    put_run(rt, place, s, ran, count, &answers, &tray)
 }
 
 // The last bytes are no whole record.
-fn say_part(bytes: u64, outcome: u64) {
+fn say_part(rt: &HostRuntime, bytes: u64, outcome: u64) {
     names::put_with(
+        rt,
         b"replay: the last # bytes are no whole record: taken as one more event, refused with #\n",
         bytes,
         outcome,
@@ -184,8 +197,9 @@ fn say_part(bytes: u64, outcome: u64) {
 
 // A part of a record at the end is an event too, and finds the 64 places that a step asks for.
 fn rest(
+    rt: &HostRuntime,
     place: u64,
-    s: Streams,
+    s: Streams<'_>,
     table: &mut [u8],
     providers: &[u8],
     books: &[u8],
@@ -196,20 +210,21 @@ fn rest(
     if place == 0 || event.len() == 0 {
         return place;
     }
-    if !files::ended(s.input, EVENTS) {
+    if !files::ended(rt, s.input, EVENTS) {
         return 0;
     }
     let mut tray = [0u8; LEAST_TRAY];
     let a = engine::step::step(table, providers, books, most, event, &mut tray);
     summary::count(tally, a.outcome);
-    say_part(event.len() as u64, a.outcome);
-    put_event(s.outcomes, place, a.outcome, a.count)
+    say_part(rt, event.len() as u64, a.outcome);
+    put_event(rt, s.outcomes, place, a.outcome, a.count)
 }
 
 // The next events of the input; the place behind them, which is the same where the input ended, or 0.
 fn next(
+    rt: &HostRuntime,
     place: u64,
-    s: Streams,
+    s: Streams<'_>,
     table: &mut [u8],
     providers: &[u8],
     books: &[u8],
@@ -217,9 +232,10 @@ fn next(
     tally: &mut [u64; summary::NUMBERS],
 ) -> u64 {
     let mut events = [0u8; 24576];
-    let n = io::read_full(s.input, &mut events);
+    let n = files::read_full(s.input, &mut events);
     let end = n - n % RECORD;
     let behind = whole(
+        rt,
         place,
         s,
         table,
@@ -230,6 +246,7 @@ fn next(
         tally,
     );
     rest(
+        rt,
         behind,
         s,
         table,
@@ -242,8 +259,8 @@ fn next(
 }
 
 // The place behind the last event; 0 where not all were replayed.
-fn reached(place: u64, input: i32) -> u64 {
-    if files::ended(input, EVENTS) {
+fn reached(rt: &HostRuntime, place: u64, input: &File) -> u64 {
+    if files::ended(rt, input, EVENTS) {
         place
     } else {
         0
@@ -252,8 +269,9 @@ fn reached(place: u64, input: i32) -> u64 {
 
 // All events from the place on where the input stands, up to its end; the place behind the last, counted from 1, or 0.
 pub fn each(
+    rt: &HostRuntime,
     from: u64,
-    s: Streams,
+    s: Streams<'_>,
     table: &mut [u8],
     providers: &[u8],
     books: &[u8],
@@ -261,18 +279,16 @@ pub fn each(
     tally: &mut [u64; summary::NUMBERS],
 ) -> u64 {
     let mut place = from;
-    let mut turns = MOST_EVENTS;
-    while turns > 0 {
-        let behind = next(place, s, table, providers, books, most, tally);
+    for _ in 0..MOST_EVENTS {
+        let behind = next(rt, place, s, table, providers, books, most, tally);
         if behind == 0 {
             return 0;
         }
         if behind == place {
-            return reached(place, s.input);
+            return reached(rt, place, s.input);
         }
-        tell(place, behind, s.whole);
+        tell(rt, place, behind, s.whole);
         place = behind;
-        turns -= 1;
     }
     0
 }

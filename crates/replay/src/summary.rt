@@ -28,16 +28,15 @@ fn outcome_at(answers: &[u8], i: usize) -> u64 {
 
 // The events of a run.
 pub fn count_run(tally: &mut [u64; NUMBERS], answers: &[u8], events: usize) {
-    let mut i: usize = 0;
-    while i < events {
+    for i in 0..events {
         count(tally, outcome_at(answers, i));
-        i += 1;
     }
 }
 
 // Document 01's words for an outcome.
-fn put_words(outcome: usize) {
+fn put_words(rt: &HostRuntime, outcome: usize) {
     names::put_line(
+        rt,
         b"done\n\
         table or books unsound, R above 7, or a tray below 64 whole places\n\
         record not 24 bytes or malformed\n\
@@ -61,13 +60,13 @@ fn put_words(outcome: usize) {
     );
 }
 
-fn say_refused(outcome: usize, n: u64) {
+fn say_refused(rt: &HostRuntime, outcome: usize, n: u64) {
     if n == 0 {
         return;
     }
-    names::put_with(b"refused # with #: ", n, outcome as u64);
-    put_words(outcome);
-    names::put(b"\n");
+    names::put_with(rt, b"refused # with #: ", n, outcome as u64);
+    put_words(rt, outcome);
+    names::put(rt, b"\n");
 }
 
 fn counted(tally: &[u64; NUMBERS], outcome: usize) -> u64 {
@@ -75,11 +74,9 @@ fn counted(tally: &[u64; NUMBERS], outcome: usize) -> u64 {
 }
 
 // How many were done, and a line for each number that an event was refused with.
-pub fn say(tally: &[u64; NUMBERS]) {
-    names::put_with(b"done #\n", counted(tally, 0), 0);
-    let mut outcome: usize = 1;
-    while outcome < NUMBERS {
-        say_refused(outcome, counted(tally, outcome));
-        outcome += 1;
+pub fn say(rt: &HostRuntime, tally: &[u64; NUMBERS]) {
+    names::put_with(rt, b"done #\n", counted(tally, 0), 0);
+    for outcome in 1..NUMBERS {
+        say_refused(rt, outcome, counted(tally, outcome));
     }
 }
