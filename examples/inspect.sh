@@ -9,7 +9,7 @@
 set -u
 here=$(cd "$(dirname "$0")/.." && pwd)
 if [ ! -x "$here/target/bin/inspect" ]; then
-    (cd "$here" && rt check inspect) >&2 || exit 2
+    "$here/tools/prove" inspect || exit 2
 fi
 said=$("$here/examples/run_program" inspect "$@") || exit 1
 [ -z "$said" ] || printf '%s\n' "$said"

@@ -16,7 +16,7 @@
 set -u
 here=$(cd "$(dirname "$0")/.." && pwd)
 if [ ! -x "$here/target/bin/reasons" ]; then
-    (cd "$here" && rt check reasons) >&2 || exit 2
+    "$here/tools/prove" reasons || exit 2
 fi
 said=$("$here/examples/run_program" reasons "$@") || exit 1
 [[ $said == *$'\n''provider 63: '* ]] || exit 1

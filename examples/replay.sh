@@ -19,7 +19,7 @@
 # 'refused N with NUMBER: words' for each outcome that occurred, 'rows used: N of M' and 'N events replayed'. A check ends with
 # 'N of M rows used, sound'. Errors, and the warning of a part of a record at the end, begin with 'replay: '.
 #
-# The program is proved and built first where target/bin/replay is missing; after a change of the sources `rt check replay` builds it anew.
+# The program is proved and built first where target/bin/replay is missing; after a change of the sources `tools/prove replay` builds it anew.
 set -u
 here=$(cd "$(dirname "$0")/.." && pwd)
 
@@ -72,7 +72,7 @@ if [ $# -eq 8 ]; then
     outputs_own "$@"
 fi
 if [ ! -x "$here/target/bin/replay" ]; then
-    (cd "$here" && rt check replay) >&2 || exit 2
+    "$here/tools/prove" replay || exit 2
 fi
 said=$(mktemp) || exit 1
 trap 'rm -f "$said"' EXIT

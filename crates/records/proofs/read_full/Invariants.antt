@@ -1,3 +1,4 @@
+-- Whatever is read fits into what is left of the buffer, so each turn comes nearer to its end.
 use Rattle.std.proofs.Common.{length, ◌-◌, ◌≤◌}
 use Rattle.records.proofs.read_full.Given as goal
 
