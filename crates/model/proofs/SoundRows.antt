@@ -10,7 +10,7 @@ use borrow.Author.Tests.{eqb-true}
 use Rattle.model.specs.Versions.{restated}
 use Rattle.model.specs.Basics.{among, iff, implies, none, with}
 use Rattle.model.specs.Numbers.{ten_digits, is_number, is_time, is_provider, is_set}
-use Rattle.model.specs.Sound.{pending, conflict, cancel_pending, failure, partial_failure, old, canceled, is_worked, is_sending}
+use Rattle.model.specs.Sound.{pending, conflict, cancel_pending, failure, partial_failure, canceled, is_worked, is_sending}
 use Rattle.model.specs.Sound.{needs_new, is_status, is_live}
 use Rattle.model.specs.Sound.{is_purposed, in_range, cast_in_range, retries_in_range, providers_fit, new_whole, old_whole, one_created}
 use Rattle.model.specs.Sound.{sides_needed, cause_fits, canceller_fits, sets_apart, retries_fit, start_fits, waiting_fits, purpose_fits}

@@ -80,7 +80,7 @@ fn put_why(errors: &impl Print, why: io::Error) {
 }
 
 // A call has failed on what an argument names: why.
-fn fail_of(rt: &impl Env, errors: &impl Print, place: usize, why: io::Error) {
+fn fail(rt: &impl Env, errors: &impl Print, place: usize, why: io::Error) {
     put_name(rt, errors, place);
     put_why(errors, why);
     put(errors, b"\n");
@@ -106,7 +106,7 @@ pub fn open<R: Env + Files>(rt: &R, errors: &impl Print, place: usize) -> Option
     match open_named(rt, &path[..n]) {
         Ok(file) => Some(file),
         Err(why) => {
-            fail_of(rt, errors, place, why);
+            fail(rt, errors, place, why);
             None
         }
     }
@@ -123,7 +123,7 @@ pub fn ended(
     let mut more = [0u8; 1];
     match file.read(&mut more) {
         Err(why) => {
-            fail_of(rt, errors, place, why);
+            fail(rt, errors, place, why);
             false
         }
         Ok(0) => true,

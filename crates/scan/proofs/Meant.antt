@@ -11,7 +11,7 @@ use lib.ListN.{length, get_or}
 use Rattle.octets.specs.Octets.{Bytes}
 use Rattle.model.specs.declared.Version.{Version}
 use Rattle.model.specs.Table.{in_line, rows_of}
-use Rattle.model.specs.Sound.{count, live, sends, worked, one_each, none_twice, sound_line, rising, sound_version, sound_lines, sound_table}
+use Rattle.model.specs.Sound.{live, sends, worked, one_each, none_twice, sound_line, rising, sound_version, sound_lines, sound_table}
 use Rattle.model.specs.Sound.{most_rows}
 use Rattle.words.specs.Size.{ROW}
 use Rattle.row.specs.Layout.{key_of}

@@ -2,7 +2,6 @@
 use mathlib.Core.Path.{refl}
 use native.Mathlib.Omega.{arith}
 use Rattle.books.proofs.Naming.{partner_split, twin_small, named-alone, named_low, named_high}
-use borrow.Author.Rules.{rules}
 use Rattle.books.proofs.line_names.Goals as goal
 
 pub returns-then-other-eq0 : goal.returns-then-other-eq0

@@ -1,14 +1,10 @@
 -- `books::owner` meets its contract. The loop's invariant: the codes that are left decide.
 -- Assumes nothing.
-use borrow.Author.Rules.{rules}
 use Prim.Native.Nat.{◌-◌}
-use mathlib.Core.Path.{◌≡◌, refl, sym, ap, ◌∙◌}
-use Rattle.model.specs.Books.{owner_of}
+use mathlib.Core.Path.{◌≡◌}
 use Rattle.books.specs.Packed.{code_place, row_places}
 use Rattle.books.specs.Places.{rest_of}
-use Rattle.books.proofs.Places.{used_end}
 use Rattle.books.specs.Search.{owner_by}
-use Rattle.books.proofs.Search.{owner_here, owner_next}
 use Rattle.books.proofs.owner.Given as goal
 
 abbrev pub invariant-loop-i : goal.invariant-loop-i

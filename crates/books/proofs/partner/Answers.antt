@@ -1,11 +1,8 @@
 -- `books::partner` meets its contract. The loop's invariant: the pairs that are left decide.
 -- Assumes nothing.
-use borrow.Author.Rules.{rules}
-use Prim.Native.Nat.{◌-◌}
-use mathlib.Core.Path.{◌≡◌, refl, sym, ap, ◌∙◌}
+use mathlib.Core.Path.{sym, ap, ◌∙◌}
 use Rattle.model.specs.Books.{partner_of}
 use Rattle.books.specs.Packed.{split_place, split_places}
-use Rattle.books.specs.Places.{rest_of}
 use Rattle.books.proofs.Places.{used_end}
 use Rattle.books.specs.Search.{partner_by}
 use Rattle.books.proofs.Search.{partner_one, partner_other, partner_next}

@@ -1,14 +1,10 @@
 -- `books::partner` meets its contract. The loop's invariant: the pairs that are left decide.
 -- Assumes nothing.
-use borrow.Author.Rules.{rules}
 use Prim.Native.Nat.{◌-◌}
-use mathlib.Core.Path.{◌≡◌, refl, sym, ap, ◌∙◌}
-use Rattle.model.specs.Books.{partner_of}
+use mathlib.Core.Path.{◌≡◌}
 use Rattle.books.specs.Packed.{split_place, split_places}
 use Rattle.books.specs.Places.{rest_of}
-use Rattle.books.proofs.Places.{used_end}
 use Rattle.books.specs.Search.{partner_by}
-use Rattle.books.proofs.Search.{partner_one, partner_other, partner_next}
 use Rattle.books.proofs.partner.Given as goal
 
 abbrev pub invariant-loop-i : goal.invariant-loop-i

@@ -1,5 +1,4 @@
 -- `decimal::longer` meets its contract. Assumes nothing.
-use borrow.Author.Rules.{rules}
 use native.Mathlib.Omega.{arith}
 use Rattle.decimal.proofs.Spelling.{no_digit, no_room, put-behind}
 use Rattle.decimal.proofs.longer.Goals as goal

@@ -1,11 +1,6 @@
 -- `decimal::number` meets its contract: what the text spells is what the number so far and the digits behind it spell.
 -- Assumes nothing.
-use borrow.Author.Rules.{rules}
-use Prim.Native.Nat.{◌-◌}
-use mathlib.Core.Path.{◌≡◌, refl, sym, ◌∙◌}
-use native.Mathlib.Omega.{arith}
-use lib.ListN.{length, drop}
-use Rattle.decimal.specs.Decimal.{spelled_from, spelled}
+use mathlib.Core.Path.{sym, ◌∙◌}
 use Rattle.decimal.proofs.Spelling.{spells_none, spells_on, spells_all}
 use Rattle.decimal.proofs.number.Goals as goal
 

@@ -1,12 +1,9 @@
 -- `decimal::number` meets its contract: what the text spells is what the number so far and the digits behind it spell.
 -- Assumes nothing.
-use borrow.Author.Rules.{rules}
 use Prim.Native.Nat.{◌-◌}
-use mathlib.Core.Path.{◌≡◌, refl, sym, ◌∙◌}
-use native.Mathlib.Omega.{arith}
+use mathlib.Core.Path.{◌≡◌}
 use lib.ListN.{length, drop}
 use Rattle.decimal.specs.Decimal.{spelled_from, spelled}
-use Rattle.decimal.proofs.Spelling.{spells_none, spells_on, spells_all}
 use Rattle.decimal.proofs.number.Given as goal
 
 abbrev pub invariant-loop-i : goal.invariant-loop-i

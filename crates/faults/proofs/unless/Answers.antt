@@ -1,5 +1,4 @@
 -- `faults::unless` meets its contract. Assumes nothing.
-use borrow.Author.Rules.{rules}
 use Rattle.faults.proofs.unless.Goals as goal
 
 pub returns : goal.returns

@@ -3,7 +3,6 @@ use mathlib.Core.Path.{sym, ◌∙◌}
 use native.Mathlib.Omega.{arith}
 use Rattle.packing.specs.Layout.{read_event}
 use Rattle.fields.proofs.Answers.{handed_refused, handed_record, handed_malformed}
-use borrow.Author.Rules.{rules}
 use Rattle.fields.proofs.read.Goals as goal
 
 pub returns-then-fields-ne-FIELDS : goal.returns-then-fields-ne-FIELDS

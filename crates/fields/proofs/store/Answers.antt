@@ -3,7 +3,6 @@ use native.Mathlib.Omega.{arith}
 use lib.ListN.{length-set}
 use Rattle.packing.specs.Layout.{eleven_of}
 use Rattle.fields.proofs.Answers.{set_all}
-use borrow.Author.Rules.{rules}
 use Rattle.fields.proofs.store.Goals as goal
 
 pub bounds-fields-4 : goal.bounds-fields-4

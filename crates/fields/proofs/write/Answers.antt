@@ -2,7 +2,6 @@
 use mathlib.Core.Path.{sym}
 use Rattle.fields.specs.Calls.{event}
 use Rattle.fields.proofs.Answers.{narrow, wide_refused}
-use borrow.Author.Rules.{rules}
 use Rattle.fields.proofs.write.Goals as goal
 
 pub narrowed-e-requires : goal.narrowed-e-requires

@@ -1,5 +1,4 @@
 -- `grid::grid` meets its contract. Assumes nothing.
-use borrow.Author.Rules.{rules}
 use mathlib.Core.Path.{sym, ap, ◌∙◌}
 use Prim.Native.Nat.{ℕ}
 use Rattle.model.specs.Standing.{grid_rule, kind_at}

@@ -3,7 +3,6 @@ use mathlib.Core.Path.{◌≡◌, ◌∙◌, sym}
 use native.Mathlib.Omega.{arith}
 use Rattle.model.specs.Record.{kind_fits}
 use Rattle.kinds.proofs.KindCases.{above, plain}
-use borrow.Author.Rules.{rules}
 use Rattle.kinds.proofs.kind_fits.Goals as goal
 use Rattle.kinds.proofs.kind_fits.Goals.{in-10-1, in_default+else-kind-lt1+then-kind-lt16}
 

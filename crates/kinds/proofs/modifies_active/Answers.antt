@@ -1,5 +1,4 @@
 -- `kinds::modifies_active` meets its contract. Assumes nothing.
-use borrow.Author.Rules.{rules}
 use Rattle.kinds.proofs.modifies_active.Goals as goal
 
 pub returns : goal.returns

@@ -1,5 +1,4 @@
 -- `kinds::new_creates` meets its contract. Assumes nothing.
-use borrow.Author.Rules.{rules}
 use Rattle.kinds.proofs.new_creates.Goals as goal
 
 pub returns : goal.returns

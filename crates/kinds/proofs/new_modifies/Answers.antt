@@ -1,5 +1,4 @@
 -- `kinds::new_modifies` meets its contract. Assumes nothing.
-use borrow.Author.Rules.{rules}
 use Rattle.kinds.proofs.new_modifies.Goals as goal
 
 pub returns : goal.returns

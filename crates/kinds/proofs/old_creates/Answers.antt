@@ -1,5 +1,4 @@
 -- `kinds::old_creates` meets its contract. Assumes nothing.
-use borrow.Author.Rules.{rules}
 use Rattle.kinds.proofs.old_creates.Goals as goal
 
 pub returns : goal.returns

@@ -1,5 +1,4 @@
 -- `kinds::old_modifies` meets its contract. Assumes nothing.
-use borrow.Author.Rules.{rules}
 use Rattle.kinds.proofs.old_modifies.Goals as goal
 
 pub returns : goal.returns

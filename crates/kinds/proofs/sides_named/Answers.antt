@@ -1,6 +1,5 @@
 -- `kinds::sides_named` meets its contract. Assumes nothing.
 use borrow.Author.Tests.{eq-eqb, ne_eqb}
-use borrow.Author.Rules.{rules}
 use Rattle.kinds.proofs.sides_named.Goals as goal
 
 pub returns-then-e-eq1 : goal.returns-then-e-eq1

@@ -1,6 +1,5 @@
 -- `kinds::well_formed` meets its contract. Assumes nothing.
 use Rattle.model.specs.Record.{well_formed}
-use borrow.Author.Rules.{rules}
 use Rattle.kinds.proofs.well_formed.Goals as goal
 
 pub returns : goal.returns

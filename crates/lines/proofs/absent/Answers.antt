@@ -5,7 +5,6 @@ use native.Mathlib.Omega.{arith}
 use Rattle.rows.specs.Table.{decode}
 use Rattle.lines.proofs.Heads.{tells}
 use Rattle.lines.proofs.Passes.{listed, absent_at, absent_out}
-use borrow.Author.Rules.{rules}
 use Rattle.lines.proofs.absent.Goals as goal
 
 pub head-requires : goal.head-requires

@@ -7,7 +7,6 @@ use Rattle.octets.specs.Octets.{be}
 use Rattle.words.specs.Size.{ROW}
 use Rattle.words.specs.Codec.{words_in}
 use Rattle.rows.specs.Place.{row_at}
-use borrow.Author.Rules.{rules}
 use Rattle.lines.proofs.head.Goals as goal
 
 pub returns : goal.returns

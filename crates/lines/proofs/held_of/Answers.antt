@@ -2,7 +2,6 @@
 use Prim.Native.Nat.{◌/◌, ◌%◌}
 use lib.Dec.{eqb}
 use Rattle.lines.specs.Pairs.{held_in}
-use borrow.Author.Rules.{rules}
 use Rattle.lines.proofs.held_of.Goals as goal
 
 pub returns : goal.returns

@@ -1,12 +1,9 @@
 -- `lines::place_from` meets its contract: the place is not before `at`. Assumes nothing.
-use Prim.Native.Nat.{◌-◌, ◌≤◌}
 use native.Mathlib.Omega.{arith}
 use Rattle.row.specs.Layout.{key_of}
 use Rattle.rows.specs.Table.{decode}
-use Rattle.table.specs.Find.{place_in}
 use Rattle.lines.proofs.Heads.{tells}
 use Rattle.lines.proofs.Abreast.{reach_out, reach_here, reach_on}
-use borrow.Author.Rules.{rules}
 use Rattle.lines.proofs.place_from.Goals as goal
 
 pub loop-at-init : goal.loop-at-init

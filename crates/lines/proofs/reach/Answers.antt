@@ -1,9 +1,8 @@
 -- `lines::reach` meets its contract: the place is not before `at`. Assumes nothing.
-use Prim.Native.Nat.{◌+◌, ◌-◌, ◌*◌, ◌≤◌, ◌<◌}
+use Prim.Native.Nat.{◌+◌, ◌*◌, ◌<◌}
 use native.Mathlib.Omega.{arith}
 use lib.ListN.{length}
 use Rattle.rows.specs.Table.{decode}
-use Rattle.table.specs.Find.{place_in}
 use Rattle.lines.proofs.Heads.{tells}
 use Rattle.lines.proofs.Passes.{listed, number_at}
 use Rattle.lines.proofs.Abreast.{reach_out, reach_here, reach_on}

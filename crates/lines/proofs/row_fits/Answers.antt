@@ -8,7 +8,6 @@ use Rattle.table.specs.Survey.{version_at}
 use Rattle.table.proofs.Numbered.{place_up}
 use Rattle.lines.proofs.Heads.{tells}
 use Rattle.lines.proofs.Abreast.{fits-nobody, fits_not, fits_by}
-use borrow.Author.Rules.{rules}
 use Rattle.lines.proofs.row_fits.Goals as goal
 
 pub head-w-requires : goal.head-w-requires

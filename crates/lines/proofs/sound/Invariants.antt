@@ -1,15 +1,8 @@
 -- `lines::sound` meets its contract. The loop's invariant: the pairs that are left decide. Assumes nothing.
 use Prim.Native.Nat.{◌-◌}
-use mathlib.Core.Path.{refl, sym, ◌∙◌}
-use native.Mathlib.Omega.{arith}
-use borrow.Author.Tests.{not-true, not-false}
 use Rattle.rows.specs.Table.{decode}
-use Rattle.scan.specs.Sound.{rows_in}
 use Rattle.books.specs.Packed.{split_place, split_places, splits_of}
-use Rattle.model.proofs.Partners.{sound_codes_lem}
-use Rattle.lines.proofs.Turns.{Left, pairs_end, pairs_free, pair_codes, pairs_fail, pairs_on}
-use Rattle.lines.proofs.Together.{pairs_lines}
-use borrow.Author.Rules.{rules}
+use Rattle.lines.proofs.Turns.{Left}
 use Rattle.lines.proofs.sound.Given as goal
 
 abbrev pub invariant-loop-i : goal.invariant-loop-i

@@ -1,17 +1,11 @@
 -- `lines::spared` meets its contract. The loop's invariant: the rows from i on decide. Assumes nothing.
-use Prim.Native.Nat.{◌+◌, ◌-◌, ◌*◌, ◌/◌, ◌≤◌}
-use mathlib.Core.Path.{◌≡◌, sym, ◌∙◌}
+use Prim.Native.Nat.{◌/◌}
+use mathlib.Core.Path.{sym, ◌∙◌}
 use native.Mathlib.Omega.{arith}
-use lib.ListN.{drop}
 use Rattle.rows.specs.Table.{decode}
-use Rattle.table.specs.Find.{place_in}
-use Rattle.lines.specs.Pairs.{spares}
 use Rattle.lines.proofs.Heads.{tells}
 use Rattle.lines.proofs.Passes.{listed, spare_bare, spare_start, spare_out, spare_past, spare_fails, spare_on}
 use Rattle.lines.proofs.spared.Goals as goal
-
-pub has_none-requires : goal.has_none-requires
-has_none-requires c = tt
 
 pub returns-then-has_none : goal.returns-then-has_none
 returns-then-has_none c =
@@ -36,12 +30,6 @@ returns-then-w-tn c =
     let g = tells a.t.now a.n l.i w.result c.requires.sound_table h w.ensures (omega arith) in
     sym (spare_past a.tn.0 a.h (decode a.t.now) (listed a.t.now a.n c.requires.sound_table) l.i l.invariant.1
     (omega (arith, c.requires.sound_table.count, h)) l.invariant.0 (w.result / 1073741824) g.tn c.if-w-tn.true)
-
-pub held_of-requires : goal.held_of-requires
-held_of-requires c = tt
-
-pub meets-requires : goal.meets-requires
-meets-requires c = tt
 
 pub returns-then-meets : goal.returns-then-meets
 returns-then-meets c =

@@ -1,13 +1,10 @@
 -- `lines::spared` meets its contract. The loop's invariant: the rows from i on decide. Assumes nothing.
-use Prim.Native.Nat.{◌+◌, ◌-◌, ◌*◌, ◌/◌, ◌≤◌}
-use mathlib.Core.Path.{◌≡◌, sym, ◌∙◌}
-use native.Mathlib.Omega.{arith}
+use Prim.Native.Nat.{◌+◌, ◌-◌, ◌*◌, ◌≤◌}
+use mathlib.Core.Path.{◌≡◌}
 use lib.ListN.{drop}
 use Rattle.rows.specs.Table.{decode}
 use Rattle.table.specs.Find.{place_in}
 use Rattle.lines.specs.Pairs.{spares}
-use Rattle.lines.proofs.Heads.{tells}
-use Rattle.lines.proofs.Passes.{listed, spare_bare, spare_start, spare_out, spare_past, spare_fails, spare_on}
 use Rattle.lines.proofs.spared.Given as goal
 
 abbrev pub invariant-loop-i : goal.invariant-loop-i

@@ -1,6 +1,5 @@
 -- `octets::first_lowest` meets its contract: the eight bytes are summed in two halves, and that is the number that they are.
 -- Assumes nothing.
-use borrow.Author.Rules.{rules}
 use native.Mathlib.Omega.{arith}
 use native.Mathlib.Nat.{add-zero}
 use Rattle.octets.specs.Octets.{le}

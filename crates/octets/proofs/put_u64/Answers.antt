@@ -1,6 +1,5 @@
 -- `octets::put_u64` meets its contract: the turned word is stored the lowest byte first, which is what `puts` does.
 -- Assumes nothing.
-use borrow.Author.Rules.{rules}
 use native.Mathlib.Omega.{arith}
 use native.Mathlib.Nat.{add-zero}
 use lib.ListN.{length-set}

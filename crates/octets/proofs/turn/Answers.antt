@@ -1,6 +1,5 @@
 -- `octets::turn` meets its contract. Assumes nothing.
 use native.Mathlib.Omega.{arith}
-use borrow.Author.Rules.{rules}
 use Rattle.octets.proofs.Turns.{summed_turned}
 use Rattle.octets.proofs.turn.Goals as goal
 

@@ -1,6 +1,5 @@
 -- `octets::u32_at` meets its contract: the four bytes are summed, and that is the number that they are.
 -- Assumes nothing.
-use borrow.Author.Rules.{rules}
 use native.Mathlib.Omega.{arith}
 use native.Mathlib.Nat.{add-zero}
 use Rattle.octets.specs.Octets.{be}

@@ -4,7 +4,6 @@ use Prim.Native.Nat.{ℕ}
 use native.Mathlib.Omega.{arith}
 use Rattle.octets.specs.Octets.{turned}
 use Rattle.octets.proofs.Turns.{turned_le}
-use borrow.Author.Rules.{rules}
 use Rattle.octets.proofs.u64_at.Goals as goal
 
 pub returns : goal.returns

@@ -1,7 +1,6 @@
 -- `opening::asked_for` meets its contract. Assumes nothing.
 use borrow.Author.Tests.{eq-eqb, ne_eqb}
 use Rattle.model.specs.Broadcast.{asked_for}
-use borrow.Author.Rules.{rules}
 use Rattle.opening.proofs.asked_for.Goals as goal
 
 pub returns-then-e-eq-RESEND : goal.returns-then-e-eq-RESEND

@@ -1,6 +1,5 @@
 -- `opening::opened` meets its contract. Assumes nothing.
 use Rattle.model.specs.Broadcast.{opened}
-use borrow.Author.Rules.{rules}
 use Rattle.opening.proofs.opened.Goals as goal
 
 pub returns : goal.returns

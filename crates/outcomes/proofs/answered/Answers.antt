@@ -1,5 +1,4 @@
 -- `outcomes::answered` meets its contract. Assumes nothing.
-use borrow.Author.Rules.{rules}
 use Rattle.outcomes.proofs.answered.Goals as goal
 
 pub returns : goal.returns

@@ -1,7 +1,6 @@
 -- `outcomes::note` meets its contract. Assumes nothing.
 use native.Mathlib.Omega.{arith}
 use lib.ListN.{length-set}
-use borrow.Author.Rules.{rules}
 use Rattle.outcomes.proofs.note.Goals as goal
 
 pub bounds-outs-i-2 : goal.bounds-outs-i-2

@@ -1,7 +1,6 @@
 -- `providers::grown` meets its contract.
 -- Assumes nothing.
 use mathlib.Core.Path.{sym, ◌∙◌}
-use borrow.Author.Rules.{rules}
 use Rattle.providers.proofs.Laws.{in_room}
 use Rattle.providers.proofs.grown.Goals as goal
 

@@ -1,6 +1,5 @@
 -- `providers::mark` meets its contract.
 -- Assumes nothing.
-use borrow.Author.Rules.{rules}
 use Rattle.providers.specs.Growth.{mark_of}
 use Rattle.providers.proofs.mark.Goals as goal
 

@@ -1,13 +1,11 @@
 -- `providers::marks_of_bytes` meets its contract. The loop's invariant: what the records passed say.
 -- Assumes nothing.
-use Prim.Native.Nat.{◌≤◌, ◌-◌}
 use mathlib.Core.Path.{◌≡◌, ◌∙◌, sym}
 use mathlib.Core.List.{map}
 use native.Mathlib.Omega.{arith}
 use borrow.Author.Rules.{rules}
 use lib.ListN.{length, length-map}
 use Rattle.providers.specs.Providers.{entry_of}
-use Rattle.providers.specs.Growth.{listed_to}
 use Rattle.providers.proofs.Laws.{listed_none, listed-all, bytes_more}
 use Rattle.providers.proofs.marks_of_bytes.Goals as goal
 

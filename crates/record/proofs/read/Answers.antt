@@ -3,7 +3,6 @@ use mathlib.Core.Path.{sym, ◌∙◌}
 use mathlib.Core.Bool.{true, false}
 use native.Mathlib.Omega.{arith}
 use Rattle.record.proofs.Codec.{read_length, read_spare, read_fields_lem}
-use borrow.Author.Rules.{rules}
 use Rattle.record.proofs.read.Goals as goal
 
 pub returns-then-s-ne-RECORD : goal.returns-then-s-ne-RECORD

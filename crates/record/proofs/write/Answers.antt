@@ -2,7 +2,6 @@
 use mathlib.Core.Path.{sym, ◌∙◌}
 use native.Mathlib.Omega.{arith}
 use Rattle.record.proofs.Codec.{fitted, written, refused_length, refused_fields}
-use borrow.Author.Rules.{rules}
 use Rattle.record.proofs.write.Goals as goal
 
 pub returns-then-out-ne-RECORD : goal.returns-then-out-ne-RECORD

@@ -1,6 +1,5 @@
 -- `fields::version_of` meets its contract. Assumes nothing.
 use Rattle.row.specs.Layout.{version_of}
-use borrow.Author.Rules.{rules}
 use Rattle.row.proofs.version_of.Goals as goal
 
 pub returns : goal.returns

@@ -1,6 +1,5 @@
 -- `fields::words_of` meets its contract. Assumes nothing.
 use Rattle.row.specs.Layout.{words_of}
-use borrow.Author.Rules.{rules}
 use Rattle.row.proofs.words_of.Goals as goal
 
 pub returns : goal.returns

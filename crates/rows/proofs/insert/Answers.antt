@@ -2,7 +2,6 @@
 use native.Mathlib.Omega.{arith}
 use Rattle.row.specs.Layout.{pack}
 use Rattle.rows.proofs.Places.{ins_law}
-use borrow.Author.Rules.{rules}
 use Rattle.rows.proofs.insert.Goals as goal
 
 pub returns : goal.returns

@@ -1,7 +1,6 @@
 -- `rows::load` meets its contract. Assumes nothing.
 use mathlib.Core.Path.{ap, ◌∙◌}
 use Rattle.row.specs.Layout.{version_of, unpack}
-use borrow.Author.Rules.{rules}
 use Rattle.rows.proofs.load.Goals as goal
 
 pub returns : goal.returns

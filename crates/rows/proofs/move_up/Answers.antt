@@ -1,9 +1,9 @@
 -- `rows::move_up` meets its contract: after each turn one byte more is ROW places further up. Assumes nothing.
 use mathlib.Core.Path.{◌≡◌, refl, ap, ◌∙◌}
-use Prim.Native.Nat.{ℕ, ◌≤◌, ◌-◌}
+use Prim.Native.Nat.{ℕ}
 use native.Mathlib.Nat.{le_refl}
 use native.Mathlib.Omega.{arith}
-use lib.ListN.{length, length-set}
+use lib.ListN.{length-set}
 use Rattle.words.specs.Size.{ROW}
 use Rattle.rows.specs.Place.{moved_up}
 use Rattle.rows.proofs.Moves.{up, up_start, up_turn}

@@ -8,7 +8,6 @@ use lib.ListN.{take}
 use Rattle.words.specs.Size.{ROW}
 use Rattle.words.specs.Codec.{bytes_of}
 use Rattle.rows.specs.Place.{put_row}
-use borrow.Author.Rules.{rules}
 use Rattle.rows.proofs.put.Goals as goal
 
 pub returns : goal.returns

@@ -2,7 +2,6 @@
 use native.Mathlib.Omega.{arith}
 use Rattle.words.proofs.Spelling.{none_blank}
 use Rattle.rows.proofs.Places.{del_law}
-use borrow.Author.Rules.{rules}
 use Rattle.rows.proofs.remove.Goals as goal
 
 pub returns : goal.returns

@@ -4,7 +4,6 @@ use Rattle.words.specs.declared.Words.{Words}
 use Rattle.words.specs.Codec.{bytes_of}
 use Rattle.row.specs.Layout.{pack}
 use Rattle.rows.specs.Place.{put_row}
-use borrow.Author.Rules.{rules}
 use Rattle.rows.proofs.store.Goals as goal
 
 pub returns : goal.returns

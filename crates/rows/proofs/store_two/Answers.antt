@@ -4,7 +4,6 @@ use mathlib.Core.List.{List}
 use Prim.Native.Nat.{ℕ}
 use Rattle.row.specs.Layout.{pack}
 use Rattle.rows.specs.Place.{put_row}
-use borrow.Author.Rules.{rules}
 use Rattle.rows.proofs.store_two.Goals as goal
 
 pub returns : goal.returns

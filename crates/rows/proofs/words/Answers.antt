@@ -6,7 +6,6 @@ use lib.ListN.{take, drop}
 use Rattle.words.specs.Size.{ROW}
 use Rattle.words.specs.Codec.{words_in}
 use Rattle.rows.specs.Place.{row_at}
-use borrow.Author.Rules.{rules}
 use Rattle.rows.proofs.words.Goals as goal
 
 pub returns : goal.returns

@@ -6,7 +6,6 @@ use Rattle.model.specs.Sound.{sound_version}
 use Rattle.scan.specs.Join.{join_of}
 use Rattle.scan.specs.Carried.{group_of}
 use Rattle.scan.proofs.Admits.{tn_fits, admit_sound, admit_unsound, admit_spare}
-use borrow.Author.Rules.{rules}
 use Rattle.scan.proofs.admit.Goals as goal
 
 pub follow-requires : goal.follow-requires

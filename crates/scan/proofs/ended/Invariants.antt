@@ -1,13 +1,10 @@
 -- `scan::ended` meets its contract: the rest of the rows decides what all after the used ones do. Assumes nothing.
-use mathlib.Core.Path.{◌≡◌, refl, sym, ◌∙◌}
+use mathlib.Core.Path.{◌≡◌}
 use Prim.Native.Nat.{◌-◌}
-use native.Mathlib.Omega.{arith}
-use borrow.Author.Tests.{not-true, not-false}
 use lib.ListN.{drop}
 use Rattle.scan.specs.declared.Scan.TheVariants.{Ended}
 use Rattle.rows.specs.Table.{pieces_of}
 use Rattle.scan.specs.Sound.{scan_rows}
-use Rattle.scan.proofs.Scans.{scan_done, ended_next, ended_bad}
 use Rattle.scan.proofs.ended.Given as goal
 
 abbrev pub invariant-loop-i : goal.invariant-loop-i

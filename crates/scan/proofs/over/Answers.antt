@@ -1,12 +1,8 @@
 -- `scan::over` meets its contract: the rest of the rows, from what the used ones so far say, decides what all do. Assumes nothing.
-use mathlib.Core.Path.{◌≡◌, sym, ap, ◌∙◌, subst}
-use Prim.Native.Nat.{◌-◌, ◌≤◌, ◌<◌}
+use mathlib.Core.Path.{sym, ap, ◌∙◌, subst}
 use native.Mathlib.Omega.{arith}
-use borrow.Author.Rules.{rules}
-use lib.ListN.{drop}
 use Rattle.scan.specs.declared.Scan.TheVariants.{Open}
 use Rattle.scan.specs.declared.join.Group.{Group}
-use Rattle.scan.specs.Join.{start}
 use Rattle.scan.specs.Carried.{group_of, joined_by, Few}
 use Rattle.rows.specs.Table.{pieces_of}
 use Rattle.scan.specs.Sound.{scan_rows}

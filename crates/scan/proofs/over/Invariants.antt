@@ -1,17 +1,12 @@
 -- `scan::over` meets its contract: the rest of the rows, from what the used ones so far say, decides what all do. Assumes nothing.
-use mathlib.Core.Path.{◌≡◌, sym, ap, ◌∙◌, subst}
+use mathlib.Core.Path.{◌≡◌}
 use Prim.Native.Nat.{◌-◌, ◌≤◌, ◌<◌}
-use native.Mathlib.Omega.{arith}
-use borrow.Author.Rules.{rules}
 use lib.ListN.{drop}
 use Rattle.scan.specs.declared.Scan.TheVariants.{Open}
-use Rattle.scan.specs.declared.join.Group.{Group}
 use Rattle.scan.specs.Join.{start}
-use Rattle.scan.specs.Carried.{group_of, joined_by, Few}
+use Rattle.scan.specs.Carried.{group_of}
 use Rattle.rows.specs.Table.{pieces_of}
 use Rattle.scan.specs.Sound.{scan_rows}
-use Rattle.scan.proofs.Carries.{start_seen}
-use Rattle.scan.proofs.Scans.{scan_done, open_ends, open_next, open_bad}
 use Rattle.scan.proofs.over.Given as goal
 
 abbrev pub invariant-loop-i : goal.invariant-loop-i

@@ -1,7 +1,6 @@
 -- `scan::verdict` meets its contract. Assumes nothing.
 use mathlib.Core.Path.{sym, ap, ◌∙◌}
 use Rattle.scan.specs.Sound.{said_by, soundness_of}
-use borrow.Author.Rules.{rules}
 use Rattle.scan.proofs.verdict.Goals as goal
 
 pub returns-in-Bad : goal.returns-in-Bad

@@ -1,7 +1,6 @@
 -- `scan::whole` meets its contract. Assumes nothing.
 use borrow.Author.Tests.{eq-eqb, ne_eqb, le-leb, lt-leb}
 use Rattle.scan.specs.Sound.{scan_of}
-use borrow.Author.Rules.{rules}
 use Rattle.scan.proofs.whole.Goals as goal
 
 pub returns-then-t : goal.returns-then-t

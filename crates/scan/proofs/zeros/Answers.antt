@@ -1,6 +1,5 @@
 -- `scan::zeros` meets its contract. Assumes nothing.
 use Rattle.words.specs.Codec.{words_in, is_blank}
-use borrow.Author.Rules.{rules}
 use Rattle.scan.proofs.zeros.Goals as goal
 
 pub returns : goal.returns

@@ -1,6 +1,5 @@
 -- `selection::classify` meets its contract: the pass has what the classes need.
 -- Assumes nothing.
-use borrow.Author.Rules.{rules}
 use Rattle.books.specs.Packed.{decode_books}
 use Rattle.selection.proofs.Classing.{class_each}
 use Rattle.selection.proofs.classify.Goals as goal

@@ -1,9 +1,6 @@
 -- `cast::all_wait` meets its contract. Assumes nothing.
 use mathlib.Core.Path.{sym, ◌∙◌}
-use borrow.Author.Tests.{not-true, not-false}
 use Rattle.sets.proofs.Waiting.{three-words}
-use borrow.Author.Rules.{rules}
-use Rattle.sets.proofs.digits_wait.Reads as digits_wait_reads
 use Rattle.sets.proofs.all_wait.Goals as goal
 
 pub returns-then-not-digits_wait : goal.returns-then-not-digits_wait

@@ -1,7 +1,6 @@
 -- `cast::retries_sound` meets its contract. Assumes nothing.
 use mathlib.Core.Path.{sym}
 use Rattle.sets.proofs.Everys.{retries_zero}
-use borrow.Author.Rules.{rules}
 use Rattle.sets.proofs.retries_sound.Goals as goal
 
 pub returns-then-c-eq0-3 : goal.returns-then-c-eq0-3

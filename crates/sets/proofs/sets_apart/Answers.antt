@@ -1,6 +1,5 @@
 -- `cast::sets_apart` meets its contract. Assumes nothing.
 use Rattle.model.specs.Sound.{sets_apart}
-use borrow.Author.Rules.{rules}
 use Rattle.sets.proofs.sets_apart.Goals as goal
 
 pub returns : goal.returns

@@ -1,6 +1,5 @@
 -- `cast::sets_fit` meets its contract. Assumes nothing.
 use Rattle.sets.specs.Order.{sets_fit}
-use borrow.Author.Rules.{rules}
 use Rattle.sets.proofs.sets_fit.Goals as goal
 
 pub returns : goal.returns

@@ -1,8 +1,6 @@
 -- `cast::used_fit` meets its contract. Assumes nothing.
 use mathlib.Core.Path.{sym, ◌∙◌}
-use borrow.Author.Tests.{not-true, not-false}
 use Rattle.sets.specs.Order.{retries_sound}
-use borrow.Author.Rules.{rules}
 use Rattle.sets.proofs.used_fit.Goals as goal
 
 pub returns-then-not-retries_in_range : goal.returns-then-not-retries_in_range

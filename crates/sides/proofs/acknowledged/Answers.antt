@@ -1,6 +1,5 @@
 -- `sides::acknowledged` meets its contract. Assumes nothing.
 use Rattle.model.specs.Changes.{acknowledged}
-use borrow.Author.Rules.{rules}
 use Rattle.sides.proofs.acknowledged.Goals as goal
 
 pub returns : goal.returns

@@ -1,5 +1,4 @@
 -- `sides::agrees` meets its contract. Assumes nothing.
-use borrow.Author.Rules.{rules}
 use Rattle.sides.proofs.agrees.Goals as goal
 
 pub returns : goal.returns

@@ -1,7 +1,6 @@
 -- `sides::cancelled` meets its contract. Assumes nothing.
 use native.Mathlib.Numerals.{add-one}
 use Rattle.model.specs.Changes.{cancelled}
-use borrow.Author.Rules.{rules}
 use Rattle.sides.proofs.cancelled.Goals as goal
 
 pub returns-then-v : goal.returns-then-v

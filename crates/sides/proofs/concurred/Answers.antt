@@ -1,6 +1,5 @@
 -- `sides::concurred` meets its contract. Assumes nothing.
 use Rattle.model.specs.Creates.{concurred}
-use borrow.Author.Rules.{rules}
 use Rattle.sides.proofs.concurred.Goals as goal
 
 pub returns : goal.returns

@@ -1,6 +1,5 @@
 -- `sides::fits` meets its contract. Assumes nothing.
 use Rattle.model.specs.Creates.{fits}
-use borrow.Author.Rules.{rules}
 use Rattle.sides.proofs.fits.Goals as goal
 
 pub returns : goal.returns

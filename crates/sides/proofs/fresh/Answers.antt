@@ -1,5 +1,4 @@
 -- `sides::fresh` meets its contract. Assumes nothing.
-use borrow.Author.Rules.{rules}
 use Rattle.sides.proofs.fresh.Goals as goal
 
 pub returns : goal.returns

@@ -1,7 +1,6 @@
 -- `sides::modified` meets its contract. Assumes nothing.
 use borrow.Author.Tests.{eq-eqb, ne_eqb}
 use Rattle.model.specs.Changes.{new_modified, old_modified}
-use borrow.Author.Rules.{rules}
 use Rattle.sides.proofs.modified.Goals as goal
 
 pub returns-then-e-eq-NEW_MODIFIES : goal.returns-then-e-eq-NEW_MODIFIES

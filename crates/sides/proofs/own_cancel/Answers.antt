@@ -1,7 +1,6 @@
 -- `sides::own_cancel` meets its contract. Assumes nothing.
 use native.Mathlib.Numerals.{add-one}
 use Rattle.model.specs.Changes.{own_cancel}
-use borrow.Author.Rules.{rules}
 use Rattle.sides.proofs.own_cancel.Goals as goal
 
 pub returns : goal.returns

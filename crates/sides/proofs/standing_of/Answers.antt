@@ -1,6 +1,5 @@
 -- `sides::standing_of` meets its contract. Assumes nothing.
 use Rattle.model.specs.Standing.{standing_of}
-use borrow.Author.Rules.{rules}
 use Rattle.sides.proofs.standing_of.Goals as goal
 
 pub returns : goal.returns

@@ -1,6 +1,5 @@
 -- `sides::window_marked` meets its contract. Assumes nothing.
 use Rattle.model.specs.Changes.{window_marked}
-use borrow.Author.Rules.{rules}
 use Rattle.sides.proofs.window_marked.Goals as goal
 
 pub returns : goal.returns

@@ -1,6 +1,5 @@
 -- `sides::window_spent` meets its contract. Assumes nothing.
 use Rattle.model.specs.Changes.{window_spent}
-use borrow.Author.Rules.{rules}
 use Rattle.sides.proofs.window_spent.Goals as goal
 
 pub returns : goal.returns

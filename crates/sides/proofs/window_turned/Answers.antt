@@ -1,7 +1,6 @@
 -- `sides::window_turned` meets its contract. Assumes nothing.
 use borrow.Author.Tests.{eq-eqb, ne_eqb}
 use Rattle.model.specs.Changes.{window_turned}
-use borrow.Author.Rules.{rules}
 use Rattle.sides.proofs.window_turned.Goals as goal
 
 pub returns-then-v-eq-CANCEL_PENDING : goal.returns-then-v-eq-CANCEL_PENDING

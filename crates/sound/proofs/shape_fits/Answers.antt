@@ -1,9 +1,8 @@
 -- `shape_fits` meets its contract. Assumes nothing.
 use mathlib.Core.Path.{sym, ◌∙◌}
-use borrow.Author.Tests.{not-true, not-false, leb-true}
+use borrow.Author.Tests.{leb-true}
 use Rattle.sound.specs.Order.{shape_fits}
 use Rattle.sound.proofs.Clauses.{outline_status, outline_purpose}
-use borrow.Author.Rules.{rules}
 use Rattle.sound.proofs.shape_fits.Goals as goal
 
 pub returns-then-not-outline_fits : goal.returns-then-not-outline_fits

@@ -1,8 +1,6 @@
 -- `sound_version` meets its contract. Assumes nothing.
 use mathlib.Core.Path.{sym, ◌∙◌}
-use borrow.Author.Tests.{not-true, not-false}
 use Rattle.sound.proofs.Clauses.{sound_order}
-use borrow.Author.Rules.{rules}
 use Rattle.sound.proofs.sound_version.Goals as goal
 
 pub returns-then-not-shape_fits : goal.returns-then-not-shape_fits

@@ -1,13 +1,9 @@
 -- `soundbooks::apart` meets its contract. The loop's invariant: the pairs that are left decide.
 -- Assumes nothing.
-use borrow.Author.Rules.{rules}
-use Prim.Native.Nat.{◌-◌}
-use mathlib.Core.Path.{◌≡◌, refl, sym, ◌∙◌}
+use mathlib.Core.Path.{refl, sym, ◌∙◌}
 use Rattle.books.specs.Packed.{splits_at, split_place, split_places}
-use Rattle.books.specs.Places.{rest_of}
 use Rattle.books.proofs.Places.{used_none, used_end}
 use Rattle.soundbooks.proofs.Halves.{halves, halves_free, halves_used, halves_code}
-use Rattle.soundbooks.specs.Sound.{apart_from}
 use Rattle.soundbooks.proofs.Soundness.{apart_end, apart_one, apart_other, apart_next}
 use Rattle.soundbooks.proofs.apart.Goals as goal
 

@@ -1,6 +1,5 @@
 -- `soundbooks::good_split` meets its contract.
 -- Assumes nothing.
-use borrow.Author.Rules.{rules}
 use Rattle.soundbooks.proofs.good_split.Goals as goal
 
 pub returns : goal.returns

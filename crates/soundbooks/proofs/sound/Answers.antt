@@ -1,8 +1,7 @@
 -- `soundbooks::sound` meets its contract: the parts in their order, the first that fails decides.
 -- Assumes nothing.
-use borrow.Author.Rules.{rules}
 use mathlib.Core.Path.{sym, ◌∙◌}
-use borrow.Author.Tests.{eq-eqb, ne_eqb, not-true, not-false}
+use borrow.Author.Tests.{eq-eqb, ne_eqb}
 use Rattle.soundbooks.proofs.Soundness.{sound_parts}
 use Rattle.soundbooks.proofs.sound.Goals as goal
 

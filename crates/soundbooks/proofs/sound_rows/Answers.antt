@@ -1,13 +1,10 @@
 -- `soundbooks::sound_rows` meets its contract.
 -- Assumes nothing.
-use borrow.Author.Rules.{rules}
-use Prim.Native.Nat.{◌+◌, ◌-◌, ◌*◌}
+use Prim.Native.Nat.{◌+◌, ◌*◌}
 use mathlib.Core.Path.{◌≡◌, refl, sym, ap, ◌∙◌}
 use native.Mathlib.Omega.{arith}
-use borrow.Author.Tests.{not-true, not-false}
 use Rattle.octets.specs.Octets.{be}
 use Rattle.books.specs.Packed.{place_of, row_places}
-use Rattle.soundbooks.specs.Scan.{scan}
 use Rattle.soundbooks.proofs.Scanning.{scan_free, scan_bad, scan-next, scan_end}
 use Rattle.soundbooks.specs.Sound.{row_test}
 use Rattle.soundbooks.proofs.sound_rows.Goals as goal

@@ -1,14 +1,9 @@
 -- `soundbooks::sound_rows` meets its contract.
 -- Assumes nothing.
-use borrow.Author.Rules.{rules}
-use Prim.Native.Nat.{◌+◌, ◌-◌, ◌*◌}
-use mathlib.Core.Path.{◌≡◌, refl, sym, ap, ◌∙◌}
-use native.Mathlib.Omega.{arith}
-use borrow.Author.Tests.{not-true, not-false}
-use Rattle.octets.specs.Octets.{be}
+use Prim.Native.Nat.{◌-◌}
+use mathlib.Core.Path.{◌≡◌}
 use Rattle.books.specs.Packed.{place_of, row_places}
 use Rattle.soundbooks.specs.Scan.{scan}
-use Rattle.soundbooks.proofs.Scanning.{scan_free, scan_bad, scan-next, scan_end}
 use Rattle.soundbooks.specs.Sound.{row_test}
 use Rattle.soundbooks.proofs.sound_rows.Given as goal
 

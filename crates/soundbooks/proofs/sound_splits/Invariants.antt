@@ -1,14 +1,10 @@
 -- `soundbooks::sound_splits` meets its contract. The loop's invariant: the places that are left decide.
 -- Assumes nothing.
-use borrow.Author.Rules.{rules}
 use Prim.Native.Nat.{◌-◌}
-use mathlib.Core.Path.{◌≡◌, refl, sym, ◌∙◌}
-use borrow.Author.Tests.{not-true, not-false}
+use mathlib.Core.Path.{◌≡◌}
 use Rattle.books.specs.Packed.{split_place, split_places}
 use Rattle.soundbooks.specs.Scan.{scan}
-use Rattle.soundbooks.proofs.Scanning.{scan_free, scan_bad, scan_end}
 use Rattle.soundbooks.specs.Sound.{split_test}
-use Rattle.soundbooks.proofs.Soundness.{split_next}
 use Rattle.soundbooks.proofs.sound_splits.Given as goal
 
 abbrev pub invariant-loop-i : goal.invariant-loop-i

@@ -1,5 +1,4 @@
 -- `systems::has` meets its contract. Assumes nothing.
-use borrow.Author.Rules.{rules}
 use mathlib.Core.Path.{refl, sym}
 use native.Mathlib.Omega.{arith}
 use Rattle.systems.specs.Set.{member}

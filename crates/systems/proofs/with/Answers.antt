@@ -1,5 +1,4 @@
 -- `systems::with` meets its contract. Assumes nothing.
-use borrow.Author.Rules.{rules}
 use Rattle.systems.proofs.Laws.{out_fits}
 use Rattle.systems.proofs.with.Goals as goal
 

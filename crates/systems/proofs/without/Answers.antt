@@ -1,5 +1,4 @@
 -- `systems::without` meets its contract. Assumes nothing.
-use borrow.Author.Rules.{rules}
 use Rattle.systems.proofs.Laws.{in_le}
 use Rattle.systems.proofs.without.Goals as goal
 

@@ -1,7 +1,6 @@
 -- `fault` meets its contract. Assumes nothing.
 use Prim.Native.Nat.{◌%◌, ◌*◌}
 use native.Mathlib.Omega.{arith}
-use borrow.Author.Rules.{rules}
 use borrow.Author.Tests.{eq-eqb, ne_eqb, le-leb, lt-leb}
 use lib.ListN.{length}
 use Rattle.model.specs.Sound.{most_rows}

@@ -7,7 +7,6 @@ use Rattle.model.specs.declared.Version.{Version}
 use Rattle.words.specs.Codec.{is_blank}
 use Rattle.scan.proofs.Admits.{tn_fits}
 use Rattle.tablefaults.specs.Clauses.{free_at, row_found}
-use borrow.Author.Rules.{rules}
 use Rattle.tablefaults.proofs.found.Goals as goal
 
 pub returns-then-blank : goal.returns-then-blank

@@ -1,12 +1,7 @@
 -- `over` meets its contract: the rows that are left decide. Assumes nothing.
-use Prim.Native.Nat.{ℕ, ◌-◌, ◌/◌, ◌≤◌}
-use mathlib.Core.Path.{◌≡◌, sym, ap, ◌∙◌}
-use native.Mathlib.Omega.{arith}
-use borrow.Author.Rules.{rules}
-use lib.ListN.{length}
-use Rattle.words.specs.Size.{ROW}
+use Prim.Native.Nat.{◌-◌, ◌≤◌}
+use mathlib.Core.Path.{◌≡◌}
 use Rattle.faults.specs.Faults.{first_fault}
-use Rattle.faults.proofs.Laws.{fault_here, fault_next, fault_end}
 use Rattle.tablefaults.specs.Clauses.{row_found}
 use Rattle.tablefaults.proofs.over.Given as goal
 

@@ -1,6 +1,5 @@
 -- `tray::message_at` meets its contract: the message that three words are.
 -- Assumes nothing.
-use borrow.Author.Rules.{rules}
 use mathlib.Core.Path.{◌∙◌, ap, ap₂}
 use Prim.Native.Nat.{ℕ}
 use Rattle.tray.specs.Tray.{message_of}

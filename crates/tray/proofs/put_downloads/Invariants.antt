@@ -1,18 +1,12 @@
 -- `tray::put_downloads` meets its contract. The loop's invariant: what is left to be put, put from here, gives the whole.
 -- Assumes nothing.
-use borrow.Author.Rules.{rules}
-use mathlib.Core.List.{List}
-use Prim.Native.Nat.{ℕ, ◌+◌, ◌-◌, ◌≤◌}
-use mathlib.Core.Path.{◌≡◌, refl, sym, ap, ◌∙◌}
-use native.Mathlib.Omega.{arith}
-use borrow.Author.Tests.{not-true, not-false}
+use Prim.Native.Nat.{◌+◌, ◌-◌, ◌≤◌}
+use mathlib.Core.Path.{◌≡◌}
 use lib.ListN.{length}
 use Rattle.systems.specs.Set.{count}
 use Rattle.verdict.specs.Verdict.{to_locals}
 use Rattle.tray.specs.Tray.{put_all}
-use Rattle.tray.proofs.Laws.{put-length}
-use Rattle.tray.proofs.Downloads.{above, members-above, count_out, count_in, length_locals, room, small_local, put_step, skip_step}
-use Rattle.tray.proofs.Downloads.{put_end}
+use Rattle.tray.proofs.Downloads.{above}
 use Rattle.tray.proofs.put_downloads.Given as goal
 
 abbrev pub invariant-providers : goal.invariant-providers

@@ -1,6 +1,5 @@
 -- `tray::put_message` meets its contract: three words, put one after the other.
 -- Assumes nothing.
-use borrow.Author.Rules.{rules}
 use Rattle.tray.proofs.Laws.{message-put}
 use Rattle.tray.proofs.put_message.Goals as goal
 

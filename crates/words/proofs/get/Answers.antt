@@ -1,6 +1,5 @@
 -- `codec::get` meets its contract. Assumes nothing.
 use Rattle.words.specs.Codec.{words_in}
-use borrow.Author.Rules.{rules}
 use Rattle.words.proofs.get.Goals as goal
 
 pub returns : goal.returns

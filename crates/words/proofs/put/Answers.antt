@@ -4,7 +4,6 @@ use mathlib.Core.List.{List}
 use Prim.Native.Nat.{ℕ}
 use Rattle.words.specs.Codec.{stored, last_of}
 use Rattle.words.proofs.Spelling.{fill}
-use borrow.Author.Rules.{rules}
 use Rattle.words.proofs.put.Goals as goal
 
 pub returns : goal.returns

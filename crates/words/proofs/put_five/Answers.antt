@@ -1,5 +1,4 @@
 -- `words::put_five` meets its contract. Assumes nothing.
-use borrow.Author.Rules.{rules}
 use Rattle.words.proofs.Spelling.{five}
 use Rattle.words.proofs.put_five.Goals as goal
 

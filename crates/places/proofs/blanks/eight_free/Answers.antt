@@ -1,6 +1,5 @@
 -- `blanks::eight_free` meets its contract.
 -- Assumes nothing.
-use borrow.Author.Rules.{rules}
 use Rattle.books.specs.Packed.{place_of}
 use Rattle.places.proofs.FreePlaces.{eight}
 use Rattle.places.proofs.blanks.eight_free.Goals as goal

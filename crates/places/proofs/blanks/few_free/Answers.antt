@@ -1,9 +1,7 @@
 -- `blanks::few_free` meets its contract. The loop's invariant: what is left to be tested decides.
 -- Assumes nothing.
-use borrow.Author.Rules.{rules}
-use Prim.Native.Nat.{◌-◌}
-use mathlib.Core.Path.{◌≡◌, refl, sym, ◌∙◌}
-use Rattle.books.specs.Packed.{place_of, free_from}
+use mathlib.Core.Path.{sym, ◌∙◌}
+use Rattle.books.specs.Packed.{place_of}
 use Rattle.places.proofs.FreePlaces.{free_used, free_more, free_end}
 use Rattle.places.proofs.blanks.few_free.Goals as goal
 

@@ -1,10 +1,8 @@
 -- `blanks::few_free` meets its contract. The loop's invariant: what is left to be tested decides.
 -- Assumes nothing.
-use borrow.Author.Rules.{rules}
 use Prim.Native.Nat.{◌-◌}
-use mathlib.Core.Path.{◌≡◌, refl, sym, ◌∙◌}
+use mathlib.Core.Path.{◌≡◌}
 use Rattle.books.specs.Packed.{place_of, free_from}
-use Rattle.places.proofs.FreePlaces.{free_used, free_more, free_end}
 use Rattle.places.proofs.blanks.few_free.Given as goal
 
 abbrev pub invariant-loop-k : goal.invariant-loop-k

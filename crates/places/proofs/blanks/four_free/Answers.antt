@@ -1,6 +1,5 @@
 -- `blanks::four_free` meets its contract.
 -- Assumes nothing.
-use borrow.Author.Rules.{rules}
 use Rattle.places.proofs.FreePlaces.{four}
 use Rattle.places.proofs.blanks.four_free.Goals as goal
 

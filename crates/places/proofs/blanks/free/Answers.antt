@@ -1,10 +1,8 @@
 -- `blanks::free` meets its contract.
 -- Assumes nothing.
 use borrow.Author.Rules.{rules}
-use Prim.Native.Nat.{◌-◌, ◌≤◌}
-use mathlib.Core.Path.{◌≡◌, refl, sym, ◌∙◌}
-use borrow.Author.Tests.{not-true, not-false}
-use Rattle.books.specs.Packed.{place_of, free_from}
+use mathlib.Core.Path.{refl, sym, ◌∙◌}
+use Rattle.books.specs.Packed.{place_of}
 use Rattle.places.proofs.FreePlaces.{eight_more, eight_used}
 use Rattle.places.proofs.blanks.free.Goals as goal
 

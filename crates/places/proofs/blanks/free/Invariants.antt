@@ -1,11 +1,8 @@
 -- `blanks::free` meets its contract.
 -- Assumes nothing.
-use borrow.Author.Rules.{rules}
 use Prim.Native.Nat.{◌-◌, ◌≤◌}
-use mathlib.Core.Path.{◌≡◌, refl, sym, ◌∙◌}
-use borrow.Author.Tests.{not-true, not-false}
+use mathlib.Core.Path.{◌≡◌}
 use Rattle.books.specs.Packed.{place_of, free_from}
-use Rattle.places.proofs.FreePlaces.{eight_more, eight_used}
 use Rattle.places.proofs.blanks.free.Given as goal
 
 abbrev pub invariant-loop-k : goal.invariant-loop-k

@@ -1,6 +1,5 @@
 -- `blanks::free_rows` meets its contract: an odd place first, and then two at a time.
 -- Assumes nothing.
-use borrow.Author.Rules.{rules}
 use mathlib.Core.Path.{sym, ◌∙◌}
 use native.Mathlib.Omega.{arith}
 use Rattle.books.specs.Packed.{place_of, row_places}

@@ -1,6 +1,5 @@
 -- `entries::good_code` meets its contract.
 -- Assumes nothing.
-use borrow.Author.Rules.{rules}
 use Rattle.places.proofs.entries.good_code.Goals as goal
 
 pub returns : goal.returns

@@ -1,6 +1,5 @@
 -- `entries::good_filter` meets its contract.
 -- Assumes nothing.
-use borrow.Author.Rules.{rules}
 use mathlib.Core.Path.{sym}
 use Rattle.places.proofs.Far.{far}
 use Rattle.places.proofs.entries.good_filter.Goals as goal

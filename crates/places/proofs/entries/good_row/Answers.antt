@@ -1,6 +1,5 @@
 -- `entries::good_row` meets its contract.
 -- Assumes nothing.
-use borrow.Author.Rules.{rules}
 use Rattle.places.proofs.entries.good_row.Goals as goal
 
 pub returns-then-filters : goal.returns-then-filters

@@ -1,6 +1,5 @@
 -- `join::bits_of` meets its contract. Assumes nothing.
 use native.Mathlib.Omega.{arith}
-use borrow.Author.Rules.{rules}
 use Rattle.scan.proofs.join.bits_of.Goals as goal
 
 pub returns : goal.returns

@@ -1,6 +1,5 @@
 -- `join::follow` meets its contract. Assumes nothing.
 use Rattle.scan.proofs.Carries.{follow_go, follow_few, follow_late, follow_twice}
-use borrow.Author.Rules.{rules}
 use Rattle.scan.proofs.join.follow.Goals as goal
 
 pub returns-then-had-has-eq0 : goal.returns-then-had-has-eq0

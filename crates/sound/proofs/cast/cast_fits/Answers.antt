@@ -1,8 +1,6 @@
 -- `cast::cast_fits` meets its contract. Assumes nothing.
 use mathlib.Core.Path.{sym, ◌∙◌}
-use borrow.Author.Tests.{not-true, not-false}
 use Rattle.sound.specs.Order.{cast_fits}
-use borrow.Author.Rules.{rules}
 use Rattle.sound.proofs.cast.cast_fits.Goals as goal
 
 pub returns-then-not-times_fit : goal.returns-then-not-times_fit

@@ -1,6 +1,5 @@
 -- `cast::times_fit` meets its contract. Assumes nothing.
 use Rattle.sound.specs.Order.{times_fit}
-use borrow.Author.Rules.{rules}
 use Rattle.sound.proofs.cast.times_fit.Goals as goal
 
 pub returns : goal.returns

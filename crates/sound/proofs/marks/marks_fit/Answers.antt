@@ -2,7 +2,6 @@
 use Rattle.model.specs.Sound.{sides_needed}
 use Rattle.sound.specs.Marks.{marks_fit}
 use Rattle.sound.proofs.Fitting.{entry_rule}
-use borrow.Author.Rules.{rules}
 use Rattle.sound.proofs.marks.marks_fit.Goals as goal
 
 pub returns : goal.returns

@@ -1,6 +1,5 @@
 -- `ranges::outline_fits` meets its contract. Assumes nothing.
 use Rattle.sound.specs.Order.{outline_fits}
-use borrow.Author.Rules.{rules}
 use Rattle.sound.proofs.ranges.outline_fits.Goals as goal
 
 pub returns : goal.returns

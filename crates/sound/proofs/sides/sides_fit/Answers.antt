@@ -1,9 +1,7 @@
 -- `sides::sides_fit` meets its contract. Assumes nothing.
 use mathlib.Core.Path.{sym, ◌∙◌}
-use borrow.Author.Tests.{not-true, not-false}
 use Rattle.model.specs.Sound.{providers_fit, new_whole, old_whole, cause_fits, canceller_fits, within_fits}
 use Rattle.sound.proofs.Clauses.{sides_order}
-use borrow.Author.Rules.{rules}
 use Rattle.sound.proofs.sides.sides_fit.Goals as goal
 
 pub returns-then-not-new_whole : goal.returns-then-not-new_whole

@@ -1,7 +1,6 @@
 -- `table::change::apply` meets its contract, by the rows that change.
 -- Assumes nothing.
 use Rattle.table.proofs.Applied.{asks, applied, struck}
-use borrow.Author.Rules.{rules}
 use Rattle.table.proofs.change.apply.Goals as goal
 
 pub put_at-requires : goal.put_at-requires

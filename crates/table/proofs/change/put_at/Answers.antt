@@ -1,7 +1,6 @@
 -- `change::put_at` meets its contract. Assumes nothing.
 use mathlib.Core.Path.{◌∙◌}
 use Rattle.table.proofs.Steps.{store_puts}
-use borrow.Author.Rules.{rules}
 use Rattle.table.proofs.change.put_at.Goals as goal
 
 pub returns : goal.returns

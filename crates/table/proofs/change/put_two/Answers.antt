@@ -1,7 +1,6 @@
 -- `change::put_two` meets its contract. Assumes nothing.
 use mathlib.Core.Path.{◌∙◌}
 use Rattle.table.proofs.Steps.{stores_put}
-use borrow.Author.Rules.{rules}
 use Rattle.table.proofs.change.put_two.Goals as goal
 
 pub returns : goal.returns

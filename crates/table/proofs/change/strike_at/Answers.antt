@@ -5,7 +5,6 @@ use native.Mathlib.Omega.{arith}
 use Rattle.rows.specs.Table.{decode}
 use Rattle.table.specs.Survey.{version_at}
 use Rattle.table.proofs.Steps.{remove_takes}
-use borrow.Author.Rules.{rules}
 use Rattle.table.proofs.change.strike_at.Goals as goal
 
 pub returns : goal.returns

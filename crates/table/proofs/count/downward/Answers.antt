@@ -1,12 +1,7 @@
 -- `count::downward` meets its contract. Assumes nothing.
 use mathlib.Core.Path.{sym, ◌∙◌}
-use Prim.Native.Nat.{◌-◌, ◌≤◌}
 use native.Mathlib.Omega.{arith}
 use Rattle.table.proofs.Using.{free_from_lem, used_before}
-use lib.ListN.{length}
-use borrow.Author.Tests.{not-true, not-false}
-use Rattle.rows.specs.Table.{decode}
-use Rattle.scan.specs.Sound.{rows_in}
 use Rattle.table.proofs.count.downward.Goals as goal
 
 pub loop-n-init : goal.loop-n-init

@@ -1,7 +1,6 @@
 -- `count::free` meets its contract. Assumes nothing.
 use mathlib.Core.Path.{ap, ◌∙◌}
 use Rattle.words.specs.Codec.{is_blank}
-use borrow.Author.Rules.{rules}
 use Rattle.table.proofs.count.free.Goals as goal
 
 pub returns : goal.returns

@@ -1,6 +1,5 @@
 -- `count::upward` meets its contract. Assumes nothing.
 use mathlib.Core.Path.{sym, ◌∙◌}
-use Prim.Native.Nat.{◌-◌, ◌≤◌}
 use native.Mathlib.Omega.{arith}
 use Rattle.table.proofs.Using.{free_from_lem}
 use Rattle.table.proofs.count.upward.Goals as goal

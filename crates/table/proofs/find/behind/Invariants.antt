@@ -1,10 +1,6 @@
 -- `find::behind` meets its contract: the place is not before `at`. Assumes nothing.
 use Prim.Native.Nat.{◌+◌, ◌-◌, ◌*◌, ◌≤◌}
-use mathlib.Core.Path.{◌≡◌}
-use native.Mathlib.Omega.{arith}
-use lib.ListN.{get_or, length}
-use Rattle.table.specs.Find.{key_at, keys_of, lower_of}
-use Rattle.table.proofs.Finds.{keys_length, keys_at, lower_le, lower_up, lower_here}
+use Rattle.table.specs.Find.{keys_of, lower_of}
 use Rattle.table.proofs.find.behind.Given as goal
 
 abbrev pub invariant-loop-at : goal.invariant-loop-at

@@ -2,7 +2,6 @@
 use native.Mathlib.Omega.{arith}
 use Rattle.table.specs.Find.{key_at}
 use Rattle.table.proofs.Finds.{bit_below}
-use borrow.Author.Rules.{rules}
 use Rattle.table.proofs.find.below.Goals as goal
 
 pub returns : goal.returns

@@ -8,7 +8,6 @@ use Rattle.words.specs.Size.{ROW}
 use Rattle.words.specs.Codec.{words_in}
 use Rattle.rows.specs.Place.{row_at}
 use Rattle.table.specs.Find.{key_at}
-use borrow.Author.Rules.{rules}
 use Rattle.table.proofs.find.first.Goals as goal
 
 pub returns : goal.returns

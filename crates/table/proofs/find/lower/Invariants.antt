@@ -1,12 +1,7 @@
 -- `find::lower` meets its contract: the place is among the `left` behind `lo`, or just behind them. Assumes nothing.
-use Prim.Native.Nat.{ℕ, ◌+◌, ◌-◌, ◌*◌, ◌/◌, ◌≤◌}
-use mathlib.Core.Path.{◌≡◌, refl, subst}
-use mathlib.Core.Bool.{cond}
-use native.Mathlib.Omega.{arith}
-use lib.Dec.{ltb}
-use lib.ListN.{get_or}
-use Rattle.table.specs.Find.{key_at, keys_of}
-use Rattle.table.proofs.Finds.{Bracket, bracket_all, bracket_half, bracket_last, bracket_end, times_bit, keys_length, keys_at}
+use Prim.Native.Nat.{◌+◌, ◌≤◌}
+use Rattle.table.specs.Find.{keys_of}
+use Rattle.table.proofs.Finds.{Bracket}
 use Rattle.table.proofs.find.lower.Given as goal
 
 abbrev pub invariant-loop-left : goal.invariant-loop-left

@@ -3,7 +3,6 @@ use Prim.Native.Nat.{◌+◌, ◌*◌}
 use mathlib.Core.Path.{◌∙◌}
 use native.Mathlib.Omega.{arith}
 use Rattle.table.proofs.Sought.{sound_rises, sound_place}
-use borrow.Author.Rules.{rules}
 use Rattle.table.proofs.find.place.Goals as goal
 
 pub lower-requires : goal.lower-requires

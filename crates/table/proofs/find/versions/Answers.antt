@@ -5,7 +5,6 @@ use native.Mathlib.Omega.{arith}
 use Rattle.table.specs.Find.{keys_of, lower_of}
 use Rattle.table.proofs.Finds.{lower_more}
 use Rattle.table.proofs.Sought.{sound_rises, sound_place}
-use borrow.Author.Rules.{rules}
 use Rattle.table.proofs.find.versions.Goals as goal
 
 pub lower-from-requires : goal.lower-from-requires

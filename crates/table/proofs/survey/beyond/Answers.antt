@@ -1,7 +1,6 @@
 -- `survey::beyond` meets its contract. Assumes nothing.
 use mathlib.Core.Path.{subst}
 use mathlib.Core.List.{List, [], append-nil}
-use borrow.Author.Rules.{rules}
 use borrow.Author.Tests.{lt-ltb, le-ltb}
 use Rattle.model.specs.declared.Version.{Version}
 use Rattle.model.specs.Table.{rows_of}
@@ -9,9 +8,6 @@ use Rattle.rows.specs.Table.{decode}
 use Rattle.scan.specs.Sound.{itself}
 use Rattle.table.specs.Survey.{Summed, facts_at}
 use Rattle.table.proofs.survey.beyond.Goals as goal
-
-pub none-p-requires : goal.none-p-requires
-none-p-requires c = tt
 
 pub returns-then-low-high : goal.returns-then-low-high
 returns-then-low-high c =

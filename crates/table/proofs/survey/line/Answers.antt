@@ -1,7 +1,6 @@
 -- `survey::line` meets its contract: the rows under the smaller TN stand before those under the larger. Assumes nothing.
 use mathlib.Core.Path.{subst}
 use mathlib.Core.List.{List}
-use borrow.Author.Rules.{rules}
 use native.Mathlib.Omega.{arith}
 use Rattle.model.specs.declared.Version.{Version}
 use Rattle.rows.specs.Table.{decode}

@@ -1,16 +1,14 @@
 -- `survey::over` meets its contract. Assumes nothing.
--- what the pass has after the versions from i on
 use mathlib.Core.Path.{ap, ◌∙◌}
 use mathlib.Core.Bool.{Bool, cond, not, ◌&&◌, ◌||◌}
 use mathlib.Core.List.{[]}
-use Prim.Native.Nat.{◌-◌, ◌≤◌, ◌<◌}
+use Prim.Native.Nat.{◌-◌, ◌<◌}
 use native.Mathlib.Omega.{arith}
-use lib.Seq.{slice}
 use Rattle.model.specs.Sound.{numbered, sends}
 use Rattle.row.specs.Layout.{unpack}
 use Rattle.rows.specs.Table.{decode}
 use Rattle.table.specs.declared.survey.Seen.TheVariants.{One}
-use Rattle.table.specs.Survey.{seen_at, Adds}
+use Rattle.table.specs.Survey.{seen_at}
 use Rattle.table.proofs.Sought.{sound_load}
 use Rattle.table.proofs.Surveys.{survey_starts, survey_turns, survey_ends, place_seen}
 use Rattle.table.proofs.survey.over.Goals as goal
@@ -23,27 +21,6 @@ loop-i-init c =
 pub load-v-requires : goal.load-v-requires
 load-v-requires c =
     omega (arith, c.loop-i.invariant.1.0, c.requires.from_le_to, c.requires.sound_table.whole, c.requires.sound_table.room)
-
-pub larger16-newest-requires : goal.larger16-newest-requires
-larger16-newest-requires c = tt
-
-pub larger32-stamp-requires : goal.larger32-stamp-requires
-larger32-stamp-requires c = tt
-
-pub first-former-requires : goal.first-former-requires
-first-former-requires c = tt
-
-pub first-live-requires : goal.first-live-requires
-first-live-requires c = tt
-
-pub is_worked-requires : goal.is_worked-requires
-is_worked-requires c = tt
-
-pub first-worked-requires : goal.first-worked-requires
-first-worked-requires c = tt
-
-pub first-asked-requires : goal.first-asked-requires
-first-asked-requires c = tt
 
 pub loop-i-smaller : goal.loop-i-smaller
 loop-i-smaller c = omega (arith, c.loop-i-test.true)

@@ -1,20 +1,11 @@
 -- `survey::over` meets its contract. Assumes nothing.
--- what the pass has after the versions from i on
-use mathlib.Core.Path.{ap, ◌∙◌}
-use mathlib.Core.Bool.{Bool, cond, not, ◌&&◌, ◌||◌}
-use mathlib.Core.List.{[]}
-use Prim.Native.Nat.{◌-◌, ◌≤◌, ◌<◌}
-use native.Mathlib.Omega.{arith}
+use Prim.Native.Nat.{◌-◌, ◌≤◌}
 use lib.Seq.{slice}
-use Rattle.model.specs.Sound.{numbered, sends}
-use Rattle.row.specs.Layout.{unpack}
 use Rattle.rows.specs.Table.{decode}
-use Rattle.table.specs.declared.survey.Seen.TheVariants.{One}
-use Rattle.table.specs.Survey.{seen_at, Adds}
-use Rattle.table.proofs.Sought.{sound_load}
-use Rattle.table.proofs.Surveys.{survey_starts, survey_turns, survey_ends, place_seen}
+use Rattle.table.specs.Survey.{Adds}
 use Rattle.table.proofs.survey.over.Given as goal
 
+-- what the pass has after the versions from i on
 abbrev pub invariant-loop-i : goal.invariant-loop-i
 invariant-loop-i l = (l.from ≤ l.i) × ((l.i ≤ l.to) × Adds (decode l.t) l.n l.number (slice l.i l.to (decode l.t))
     (record {

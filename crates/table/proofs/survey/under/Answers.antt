@@ -11,7 +11,6 @@ use Rattle.table.specs.Survey.{Adds}
 use Rattle.table.proofs.Sought.{sound_good}
 use Rattle.table.proofs.Numbered.{rows_between}
 use Rattle.table.proofs.Surveys.{number_places}
-use borrow.Author.Rules.{rules}
 use Rattle.table.proofs.survey.under.Goals as goal
 
 pub over-requires : goal.over-requires

@@ -1,5 +1,4 @@
 -- `survey::whole` meets its contract: of what was summed, the versions that the kind asks for. Assumes nothing.
-use borrow.Author.Rules.{rules}
 use Rattle.table.proofs.Surveys.{of_create, of_other}
 use Rattle.table.proofs.survey.whole.Goals as goal
 

@@ -1,6 +1,5 @@
 -- `above::behind_free` meets its contract. Assumes nothing.
 use mathlib.Core.Path.{ap, ◌∙◌}
-use borrow.Author.Rules.{rules}
 use Rattle.words.specs.Codec.{is_blank}
 use Rattle.tablefaults.specs.Clauses.{free_at}
 use Rattle.faults.proofs.Laws.{before_none, before_is}

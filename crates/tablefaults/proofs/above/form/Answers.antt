@@ -1,5 +1,4 @@
 -- `above::form` meets its contract. Assumes nothing.
-use borrow.Author.Rules.{rules}
 use Rattle.tablefaults.proofs.above.form.Goals as goal
 
 pub returns : goal.returns

@@ -1,5 +1,4 @@
 -- `above::has` meets its contract. Assumes nothing.
-use borrow.Author.Rules.{rules}
 use borrow.Author.Tests.{eq-eqb, ne_eqb}
 use Rattle.tablefaults.proofs.above.has.Goals as goal
 

@@ -1,5 +1,4 @@
 -- `above::shared` meets its contract. Assumes nothing.
-use borrow.Author.Rules.{rules}
 use Rattle.tablefaults.proofs.above.shared.Goals as goal
 
 pub returns : goal.returns

@@ -1,12 +1,7 @@
 -- `above::sharer` meets its contract: the rows before row j decide, as those before row i. Assumes nothing.
 use Prim.Native.Nat.{◌≤◌}
-use mathlib.Core.Path.{◌≡◌, refl, sym, ◌∙◌}
-use native.Mathlib.Omega.{arith}
-use borrow.Author.Rules.{rules}
-use borrow.Author.Tests.{not-true, not-false}
-use Rattle.row.specs.Layout.{unpack}
+use mathlib.Core.Path.{◌≡◌}
 use Rattle.tablefaults.specs.Clauses.{sharer}
-use Rattle.tablefaults.proofs.Sharers.{sharer_none, sharer_end, sharer-here, sharer-next}
 use Rattle.tablefaults.proofs.above.sharer.Given as goal
 
 abbrev pub invariant-loop-j : goal.invariant-loop-j

@@ -1,7 +1,6 @@
 -- `above::sinks` meets its contract. Assumes nothing.
 use Prim.Native.Nat.{◌<◌}
 use mathlib.Core.Path.{sym, subst}
-use borrow.Author.Rules.{rules}
 use Rattle.model.specs.declared.Version.{Version}
 use Rattle.row.specs.Layout.{unpack}
 use Rattle.faults.proofs.Laws.{before_none, before_is}

@@ -1,5 +1,4 @@
 -- `alone::cast` meets its contract. Assumes nothing.
-use borrow.Author.Rules.{rules}
 use Rattle.tablefaults.proofs.alone.cast.Goals as goal
 
 pub returns : goal.returns

@@ -1,5 +1,4 @@
 -- `alone::ranges` meets its contract. Assumes nothing.
-use borrow.Author.Rules.{rules}
 use Rattle.tablefaults.proofs.alone.ranges.Goals as goal
 
 pub returns : goal.returns

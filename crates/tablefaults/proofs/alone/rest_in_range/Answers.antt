@@ -1,5 +1,4 @@
 -- `alone::rest_in_range` meets its contract. Assumes nothing.
-use borrow.Author.Rules.{rules}
 use Rattle.tablefaults.proofs.alone.rest_in_range.Goals as goal
 
 pub returns : goal.returns

@@ -1,5 +1,4 @@
 -- `alone::sides` meets its contract. Assumes nothing.
-use borrow.Author.Rules.{rules}
 use Rattle.tablefaults.proofs.alone.sides.Goals as goal
 
 pub returns : goal.returns

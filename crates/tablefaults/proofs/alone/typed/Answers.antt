@@ -1,5 +1,4 @@
 -- `alone::typed` meets its contract. Assumes nothing.
-use borrow.Author.Rules.{rules}
 use Rattle.tablefaults.proofs.alone.typed.Goals as goal
 
 pub returns : goal.returns
