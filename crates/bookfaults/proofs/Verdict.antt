@@ -150,7 +150,8 @@ module _ (w : ℕ → ℕ) where
   rows_chain b m zero i = refl
   rows_chain b m (suc n) i = go (eqb (w i) 0) (rows_chain b m n (suc i))
     where
-      go : (f : Bool) → all_used w (λ (k : ℕ). good_row b m (last_at w k) (w k)) n (suc i) ≡ chain (row_test b m) (w i) (used_from w n (suc i))
+      go : (f : Bool) → all_used w (λ (k : ℕ). good_row b m (last_at w k) (w k)) n (suc i)
+          ≡ chain (row_test b m) (w i) (used_from w n (suc i))
           → cond f true (good_row b m (last_at w i) (w i) && all_used w (λ (k : ℕ). good_row b m (last_at w k) (w k)) n (suc i))
           ≡ chain (row_test b m) (last_at w i) (cond f [] (w i ∷ used_from w n (suc i)))
       go true e = refl
@@ -268,7 +269,8 @@ bytes_agree m bs s = go (eqb (length bs) book_bytes) (eqb (head_of bs) 0) ∙ rw
         ∙ ap₂ (λ (a b : Bool). a && b) (filters_agree (filter_place bs) m row_places) (pairs_agree (split_place bs) m split_places))
 
     go : (a b : Bool) → is_faultless
-        (cond a (cond b (or_else (list_fault codes m bs) (or_else (list_fault filters m bs) (list_fault pairs m bs))) (broken 4)) (broken 3))
+        (cond a (cond b (or_else (list_fault codes m bs) (or_else (list_fault filters m bs) (list_fault pairs m bs))) (broken 4))
+        (broken 3))
         ≡ (a && (b && (true && (scan (row_test false m) (code_place bs) row_places 0 0
         && (scan (row_test true m) (filter_place bs) row_places 0 0 && scan split_test (split_place bs) split_places 0 0)))))
     go true true = lists

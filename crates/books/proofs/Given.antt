@@ -26,7 +26,8 @@ module _ (m : Marks) (bs : List ℕ) (e : sound_bytes m bs ≡ true) where
       (and_l (eqb (length bs) book_bytes && eqb (head_of bs) 0 && packed_from (code_place bs) row_places 0 && packed_from (filter_place bs)
       row_places 0) (packed_from (split_place bs) split_places 0)
       (and_l
-      (eqb (length bs) book_bytes && eqb (head_of bs) 0 && packed_from (code_place bs) row_places 0 && packed_from (filter_place bs) row_places 0
+      (eqb (length bs) book_bytes && eqb (head_of bs) 0 && packed_from (code_place bs) row_places 0 && packed_from (filter_place bs)
+      row_places 0
       && packed_from (split_place bs) split_places 0)
       (sound_books (decode_books m bs)) e)))))
 
@@ -35,7 +36,8 @@ module _ (m : Marks) (bs : List ℕ) (e : sound_bytes m bs ≡ true) where
   unfolding sound_bytes
   sound_books_lem =
       and_r
-      (eqb (length bs) book_bytes && eqb (head_of bs) 0 && packed_from (code_place bs) row_places 0 && packed_from (filter_place bs) row_places 0
+      (eqb (length bs) book_bytes && eqb (head_of bs) 0 && packed_from (code_place bs) row_places 0 && packed_from (filter_place bs)
+      row_places 0
       && packed_from (split_place bs) split_places 0)
       (sound_books (decode_books m bs)) e
 
@@ -44,13 +46,15 @@ module _ (m : Marks) (bs : List ℕ) (e : sound_bytes m bs ≡ true) where
   sound_marks_lem =
       and_l (sound_marks m) (sound_codes m (codes_of bs))
       (and_l (sound_marks m && sound_codes m (codes_of bs)) (sound_filters m (filters_of bs))
-      (and_l (sound_marks m && sound_codes m (codes_of bs) && sound_filters m (filters_of bs)) (sound_splits (splits_of bs)) sound_books_lem))
+      (and_l (sound_marks m && sound_codes m (codes_of bs) && sound_filters m (filters_of bs)) (sound_splits (splits_of bs))
+      sound_books_lem))
 
   pub sound_filters_lem : sound_filters m (filters_of bs) ≡ true
   unfolding sound_books
   sound_filters_lem =
       and_r (sound_marks m && sound_codes m (codes_of bs)) (sound_filters m (filters_of bs))
-      (and_l (sound_marks m && sound_codes m (codes_of bs) && sound_filters m (filters_of bs)) (sound_splits (splits_of bs)) sound_books_lem)
+      (and_l (sound_marks m && sound_codes m (codes_of bs) && sound_filters m (filters_of bs)) (sound_splits (splits_of bs))
+      sound_books_lem)
 
   pub sound_splits_lem : sound_splits (splits_of bs) ≡ true
   unfolding sound_books

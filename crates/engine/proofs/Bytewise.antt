@@ -133,14 +133,16 @@ module _ (p b : List ℕ) (most : ℕ) (y : List ℕ) (rows : ℕ) where
         → table_at_end p b most y es (encode vs rows) ≡ encode (final (step_of S) (map fields_in es) vs) rows
     end_is [] vs h r = refl
     end_is (e ∷ es) vs h (with f r) =
-        ap (table_at_end p b most y es) (next vs h e f) ∙ end_is es (after (step_of S) (fields_in e) vs) (stays_sound S (fields_in e) vs h) r
+        ap (table_at_end p b most y es) (next vs h e f)
+        ∙ end_is es (after (step_of S) (fields_in e) vs) (stays_sound S (fields_in e) vs h) r
 
     pub numbers_are : (es : List (List ℕ)) (vs : List Version) → unsound S vs ≡ false → Records es
         → numbers_in p b most y es (encode vs rows) ≡ map number_of (outcomes (step_of S) (map fields_in es) vs)
     numbers_are [] vs h r = refl
     numbers_are (e ∷ es) vs h (with f r) =
         ap₂ (λ (x : Result) (l : List ℕ). number_of x.out ∷ l) (at vs h e f)
-        (ap (numbers_in p b most y es) (next vs h e f) ∙ numbers_are es (after (step_of S) (fields_in e) vs) (stays_sound S (fields_in e) vs h)
+        (ap (numbers_in p b most y es) (next vs h e f)
+        ∙ numbers_are es (after (step_of S) (fields_in e) vs) (stays_sound S (fields_in e) vs h)
         r)
 
     pub messages_are : (es : List (List ℕ)) (vs : List Version) → unsound S vs ≡ false → Records es
@@ -168,7 +170,8 @@ module _ (p b : List ℕ) (most : ℕ) (y : List ℕ) (rows : ℕ) where
               ∙ reorder-map number_of ns (outcomes (step_of S) (map fields_in es) vs)
               ∙ ap (reorder ns) (sym (numbers_are es vs h r));
           mail = λ local s n.
-              ap (mail_of (line_by b) local s n) (messages_are (reorder ns es) vs h k ∙ ap (λ (l : List Event). messages (step_of S) l vs) m)
+              ap (mail_of (line_by b) local s n)
+              (messages_are (reorder ns es) vs h k ∙ ap (λ (l : List Event). messages (step_of S) l vs) m)
               ∙ q.mail local s n
               ∙ ap (mail_of (line_by b) local s n) (sym (messages_are es vs h r));
         }

@@ -19,7 +19,8 @@ use Rattle.model.specs.Changes.{modified, turns, cancelled, acknowledged, resolv
 use Rattle.model.specs.Broadcast.{opened, broadcasts}
 use Rattle.model.specs.Answers.{answering, again, heard, asked_again, answers}
 use Rattle.model.specs.Closing.{open?, closed, closing_told, settled, settling_told}
-use Rattle.model.specs.Tray.{members_to, members, message, no_lrn, to_soas, sides_told, restated_told, status_told, attributes_told, download_to}
+use Rattle.model.specs.Tray.{members_to, members, message, no_lrn, to_soas, sides_told, restated_told, status_told, attributes_told}
+use Rattle.model.specs.Tray.{download_to}
 use Rattle.model.specs.Tray.{downloads}
 use Rattle.model.specs.Step.{manages, accepted, rule}
 use Rattle.model.proofs.Lists.{head_of, all_first}

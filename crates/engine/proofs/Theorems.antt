@@ -44,7 +44,8 @@ module _ (p b : List ℕ) (most : ℕ) (e t y u z : List ℕ) (a : Answer) (d : 
       (d.table ∙ rw r, d.tray ∙ ap (put_all y 0) n, d.count ∙ ap length n)
 
   -- Every outcome 0 leaves a table that the soundness check accepts. [V12]
-  pub done_accepted : a.outcome ≡ 0 → soundness_lent (listed (map entry_of p)) b u ≡ Sound (used_after (listed (map entry_of p)) b most e t y)
+  pub done_accepted : a.outcome ≡ 0 → soundness_lent (listed (map entry_of p)) b u
+      ≡ Sound (used_after (listed (map entry_of p)) b most e t y)
   done_accepted h =
       ap (soundness_lent (listed (map entry_of p)) b) d.table ∙ done_scanned (listed (map entry_of p)) b most e t y
       (ap is_done (zero_done (result_of p b most e t y).out (sym d.outcome ∙ h)))

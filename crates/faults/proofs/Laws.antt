@@ -107,7 +107,8 @@ none_broken (c ∷ cs) rest h = go c.holds (none_broken cs rest (on (eqb c.numbe
 -- ---- what is found decides
 
 module _ (found : ℕ → Found) (m i : ℕ) where
-  pub faultless-next : eqb (found i).clause 0 ≡ true → is_faultless (first_fault found (suc m) i) ≡ is_faultless (first_fault found m (suc i))
+  pub faultless-next : eqb (found i).clause 0 ≡ true → is_faultless (first_fault found (suc m) i)
+      ≡ is_faultless (first_fault found m (suc i))
   unfolding first_fault
   faultless-next e = rw e
 

@@ -4,7 +4,8 @@
 ghost use Rattle.std.specs.Prelude.{◌≡◌};
 ghost use Rattle.model.specs.Numbers.{ten_digits};
 ghost use Rattle.model.specs.Record.{two_sides, authorizes as authorizes_with, new_creates, old_creates, new_modifies, old_modifies};
-ghost use Rattle.model.specs.Record.{modifies_active, replies as replies_to, silent as silent_of, plainly as plainly_of, kind_fits, fits_bits};
+ghost use Rattle.model.specs.Record.{modifies_active, replies as replies_to, silent as silent_of, plainly as plainly_of, kind_fits};
+ghost use Rattle.model.specs.Record.{fits_bits};
 ghost use Rattle.model.specs.Record.{type_fits, sides_named, well_formed};
 
 use model::{Event, Lrn, Tn, kind, limit, mark};

@@ -113,7 +113,8 @@ module _ (line : ℕ → ℕ) (vs : List Version) where
   -- NOTHING IS AT FAULT exactly where the lines are sound
   pub lines_verdict : is_faultless (line_fault line vs) ≡ sound_lines line vs
   unfolding line_fault
-  lines_verdict = same (is_faultless (first_fault (row_found line vs) (length vs) 0)) (sound_lines line vs) (λ e. clear_lines line vs (clear e))
+  lines_verdict = same (is_faultless (first_fault (row_found line vs) (length vs) 0)) (sound_lines line vs)
+      (λ e. clear_lines line vs (clear e))
       (λ e. faultless (lines_clear line vs e))
     where
       clear : is_faultless (first_fault (row_found line vs) (length vs) 0) ≡ true → AllClear line vs

@@ -94,7 +94,8 @@ module _ (c d : ℕ) (t : List Version) where
       unnamed : has_name (name_under c (version_at t j)) (version_at t i) ≡ false
       unnamed =
           not-true _ (all_at (λ (x : Version). not (has_name (name_under c (version_at t j)) x)) t
-          (and_l (lacks (name_under c (version_at t j)) t) (spares (under_code c (version_at t j).id.tn.0) (held_of (version_at t j)) t) fit)
+          (and_l (lacks (name_under c (version_at t j)) t) (spares (under_code c (version_at t j).id.tn.0) (held_of (version_at t j)) t)
+          fit)
           i hi)
 
       other : (version_at t i).id.number ≡ (version_at t j).id.number → ⊥
@@ -105,7 +106,8 @@ module _ (c d : ℕ) (t : List Version) where
       spared =
           all_at (λ (x : Version).
           not (eqb x.id.tn.0 (under_code c (version_at t j).id.tn.0) && meet (held_of x) (held_of (version_at t j)))) t
-          (and_r (lacks (name_under c (version_at t j)) t) (spares (under_code c (version_at t j).id.tn.0) (held_of (version_at t j)) t) fit)
+          (and_r (lacks (name_under c (version_at t j)) t) (spares (under_code c (version_at t j).id.tn.0) (held_of (version_at t j)) t)
+          fit)
           i hi
 
       free : (b : Bool) → not (eqb (version_at t i).id.tn.0 (under_code c (version_at t j).id.tn.0) && b) ≡ true → b ≡ false
@@ -133,7 +135,8 @@ module _ (c d : ℕ) (t : List Version) where
       go : (j : ℕ) → j < length t → (b : Bool) → under d (version_at t j) ≡ b → implies b (fits c t (version_at t j)) ≡ true
       go j hj true e =
           both_true (lacks (name_under c (version_at t j)) t) (spares (under_code c (version_at t j).id.tn.0) (held_of (version_at t j)) t)
-          (at_all (λ (x : Version). not (has_name (name_under c (version_at t j)) x)) t (λ i hi. nameless i j hi hj (eqb-true _ _ e) _ refl))
+          (at_all (λ (x : Version). not (has_name (name_under c (version_at t j)) x)) t
+          (λ i hi. nameless i j hi hj (eqb-true _ _ e) _ refl))
           (at_all (λ (x : Version).
           not (eqb x.id.tn.0 (under_code c (version_at t j).id.tn.0) && meet (held_of x) (held_of (version_at t j)))) t
           (λ i hi. spare i j hi hj (eqb-true _ _ e) _ refl))

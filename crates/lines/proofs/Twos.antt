@@ -120,7 +120,8 @@ module _ (line : ℕ → ℕ) (l : ℕ) (t : List Version) (p : Version → Bool
       (two_one both t
       (λ i j d h x y. f i j d h (eqb-true _ _ (and_l (in_line line l (version_at t i).id) (p (version_at t i)) x))
       (eqb-true _ _ (and_l (in_line line l (version_at t j).id) (p (version_at t j)) y))
-      (and_r (in_line line l (version_at t i).id) (p (version_at t i)) x) (and_r (in_line line l (version_at t j).id) (p (version_at t j)) y)))
+      (and_r (in_line line l (version_at t i).id) (p (version_at t i)) x)
+      (and_r (in_line line l (version_at t j).id) (p (version_at t j)) y)))
 
 -- ---- two versions that may stand in one line
 

@@ -29,7 +29,8 @@ member_none p = ap (λ (x : ℕ). eqb x 1) (let z : 0 / 2 ^ p ≡ 0 = zero-div (
 
 -- what an answer for a version gets, in the order of its kind
 abbrev pub holds_for : Event → Version → Outcome → Bool
-holds_for e v o = cond (eqb (number_of o) (number_of Unawaited)) (not (awaited e v)) (eqb (number_of o) (number_of Early) && before_start e v)
+holds_for e v o =
+    cond (eqb (number_of o) (number_of Unawaited)) (not (awaited e v)) (eqb (number_of o) (number_of Early) && before_start e v)
 
 abbrev pub unheard : Event → Version → Outcome
 unheard e v = judge (holds_for e v) answer_order

@@ -42,7 +42,8 @@ by_entry : (i : ℕ) → i < grid_entries → get_or cells i 0 ≡ rule_at i
 unfolding cells right rule_at grid_rule
 by_entry i h = eqb→eq (get_or cells i 0) (rule_at i) (at right cells tt i h)
 
-pub by_place : (s j t : ℕ) → s ≤ last_status → j < grid_kinds → t < 3 → get_or cells ((s * grid_kinds + j) * 3 + t) 0 ≡ grid_rule s (kind_at j) t
+pub by_place : (s j t : ℕ) → s ≤ last_status → j < grid_kinds → t < 3 → get_or cells ((s * grid_kinds + j) * 3 + t) 0
+    ≡ grid_rule s (kind_at j) t
 unfolding rule_at
 by_place s j t hs hj ht =
     let a : ((s * grid_kinds + j) * 3 + t) / (grid_kinds * 3) ≡ s = omega arith in

@@ -286,7 +286,8 @@ module _ (P : ℕ → ℕ → Bool) where
   pairwise x = P x.one x.other
 
   -- it holds of every pair: so of every two partners, one way or the other
-  pub pairs_partners : (xs : List Split) → all pairwise xs ≡ true → (c d : ℕ) → partner_in c xs ≡ d → 0 < d → (P c d ≡ true) ⊎ (P d c ≡ true)
+  pub pairs_partners : (xs : List Split) → all pairwise xs ≡ true → (c d : ℕ) → partner_in c xs ≡ d → 0 < d
+      → (P c d ≡ true) ⊎ (P d c ≡ true)
   pairs_partners [] e c d q h = absurd (omega arith)
   pairs_partners (x ∷ xs) e c d q h =
       let here : P x.one x.other ≡ true = and_l (pairwise x) (all pairwise xs) e in

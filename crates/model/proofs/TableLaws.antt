@@ -275,7 +275,8 @@ module _ (p : Id → Bool) where
     where
       go : (o : Ordering) → order (name_of c) x.id ≡ o → (b : Bool) → p x.id ≡ b → part (change c xs) ≡ change c (part xs)
           → part (change c (x ∷ xs)) ≡ change c (part (x ∷ xs))
-      go Ordering.lt e b f ih = rw e (part_miss_in c (x ∷ xs) h ∙ sym (change-under c (part (x ∷ xs)) (under_part (name_of c) (x ∷ xs) e r)))
+      go Ordering.lt e b f ih = rw e
+          (part_miss_in c (x ∷ xs) h ∙ sym (change-under c (part (x ∷ xs)) (under_part (name_of c) (x ∷ xs) e r)))
       go Ordering.eq e b f ih = rw (e, ap p (sym (order_eq (name_of c) x.id e)) ∙ h, e) (part_hit_in c xs h)
       go Ordering.gt e true f ih = rw (e, f, e) (ap (λ (l : List Version). x ∷ l) ih)
       go Ordering.gt e false f ih = rw (e, f) ih

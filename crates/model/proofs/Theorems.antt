@@ -182,5 +182,6 @@ pub grid_entries_lem : length cells ≡ grid_entries
 grid_entries_lem = entries
 
 -- The grid's rule over all entries of its table: status s, place j among the kinds, standing w. [H6]
-pub grid_rule_lem : (s j w : ℕ) → s ≤ last_status → j < grid_kinds → w < 3 → get_or cells ((s * grid_kinds + j) * 3 + w) 0 ≡ grid_rule s (kind_at j) w
+pub grid_rule_lem : (s j w : ℕ) → s ≤ last_status → j < grid_kinds → w < 3 → get_or cells ((s * grid_kinds + j) * 3 + w) 0
+    ≡ grid_rule s (kind_at j) w
 grid_rule_lem = by_place

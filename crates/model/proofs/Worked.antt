@@ -177,7 +177,8 @@ listing =
     ++ refused (activation 2 1 99) 8 (agreed_on 1 20 2 1 ∷ [])
     ∷ done (activation 2 1 100) (downloads_to activate 1 (1 ∷ 2 ∷ [])) (sends 1 100 2 1 nobody both nobody ∷ [])
     ∷ done (success 1 1 105) [] (sends 1 105 2 1 (only 1) (only 2) nobody ∷ [])
-    ∷ done (silence 2 1 110) (status_to 1 partial_failure (only 2) (1 ∷ 2 ∷ [])) (closes 1 partial_failure 110 true 2 1 (only 1) (only 2) ∷ [])
+    ∷ done (silence 2 1 110) (status_to 1 partial_failure (only 2) (1 ∷ 2 ∷ []))
+    (closes 1 partial_failure 110 true 2 1 (only 1) (only 2) ∷ [])
     ∷ refused (success 2 1 120) 11 (closes 1 partial_failure 110 true 2 1 (only 1) (only 2) ∷ [])
     ∷ done (resend 1 200) (downloads_to activate 1 (2 ∷ [])) (resent ∷ [])
     ∷ done (success 2 1 205) (status_to 1 active nobody (1 ∷ 2 ∷ [])) (closes 1 active 205 true 2 1 both nobody ∷ [])
@@ -201,9 +202,11 @@ slips =
     ∷ given (asks12 0 256) []
     (asked
     ++ done (success 1 1 105) [] (sends 1 105 2 1 (only 1) (only 2) nobody ∷ [])
-    ∷ done (failing 2 1 110) (status_to 1 partial_failure (only 2) (1 ∷ 2 ∷ [])) (closes 1 partial_failure 110 true 2 1 (only 1) (only 2) ∷ [])
+    ∷ done (failing 2 1 110) (status_to 1 partial_failure (only 2) (1 ∷ 2 ∷ []))
+    (closes 1 partial_failure 110 true 2 1 (only 1) (only 2) ∷ [])
     ∷ done (resend 1 200) (downloads_to activate 1 (2 ∷ [])) (resent ∷ [])
-    ∷ done (failing 2 1 205) (status_to 1 partial_failure (only 2) (1 ∷ 2 ∷ [])) (closes 1 partial_failure 205 true 2 1 (only 1) (only 2) ∷ [])
+    ∷ done (failing 2 1 205) (status_to 1 partial_failure (only 2) (1 ∷ 2 ∷ []))
+    (closes 1 partial_failure 205 true 2 1 (only 1) (only 2) ∷ [])
     ∷ []
     )
     -- L3 While an activation is sending, the earlier live version stays.
@@ -271,7 +274,8 @@ due_dates =
     ∷ []
     )
     -- Its old side is not the current provider as well: 12.
-    ∷ given (asks12 0 256) (live_one ∷ single 2 10 3 1 ∷ []) (refused (event 2 1 3 1 tn 0 0 20 101) 12 (live_one ∷ single 2 10 3 1 ∷ []) ∷ [])
+    ∷ given (asks12 0 256) (live_one ∷ single 2 10 3 1 ∷ [])
+    (refused (event 2 1 3 1 tn 0 0 20 101) 12 (live_one ∷ single 2 10 3 1 ∷ []) ∷ [])
     -- In conflict alike, and for the new side.
     ∷ given (asks12 0 256) []
     (done objection (map (message false creation 1 conflict nobody 0) (1 ∷ 2 ∷ [])) (objected (new_absent 2) 10 ∷ [])
@@ -336,12 +340,17 @@ pub record Instance : Type 0 where
 
 computed : (all_pass examples ≡ true) × (passes listing ≡ true) × (all_pass slips ≡ true) × (all_pass due_dates ≡ true)
     × (all_pass twins ≡ true) × (all_pass insides ≡ true)
-unfolding accepted acknowledged again another_due answered apart asked_again asked_for broadcasts busy busy_with cancelled cast_in_range cause_fits
-    class_of close_to closed closing_told concurred creates current_for early every exhausted filters fits fits_bits fresh_version full grid_rule
-    heard in_range kind_fits line_in manages members moved new_modified new_whole none_twice not_current octal old_modified old_whole one_each opened
+unfolding accepted acknowledged again another_due answered apart asked_again asked_for broadcasts busy busy_with cancelled cast_in_range
+    cause_fits
+    class_of close_to closed closing_told concurred creates current_for early every exhausted filters fits fits_bits fresh_version full
+    grid_rule
+    heard in_range kind_fits line_in manages members moved new_modified new_whole none_twice not_current octal old_modified old_whole
+    one_each opened
     order own_cancel owner_of partner_of resolved retired retires retries_fit retries_in_range rule selected_for sets_apart settled settles
-    settling_told sides_needed skipped sound_books sound_codes sound_filters sound_line sound_lines sound_marks sound_splits sound_table sound_version
-    standing_of step unawaited unfit unready unsound used well_formed window_marked window_runs window_spent window_turned with_octal with_used
+    settling_told sides_needed skipped sound_books sound_codes sound_filters sound_line sound_lines sound_marks sound_splits sound_table
+    sound_version
+    standing_of step unawaited unfit unready unsound used well_formed window_marked window_runs window_spent window_turned with_octal
+    with_used
     member mask_of meet size examples listing slips due_dates twins insides
 computed = (refl, refl, refl, refl, refl, refl)
 
@@ -364,12 +373,17 @@ pub insides_computed : all_pass insides ≡ true
 insides_computed = computed.5
 
 pub an_instance : Instance
-unfolding accepted acknowledged again another_due answered apart asked_again asked_for broadcasts busy busy_with cancelled cast_in_range cause_fits
-    class_of close_to closed closing_told concurred creates current_for early every exhausted filters fits fits_bits fresh_version full grid_rule
-    heard in_range kind_fits line_in manages members moved new_modified new_whole none_twice not_current octal old_modified old_whole one_each opened
+unfolding accepted acknowledged again another_due answered apart asked_again asked_for broadcasts busy busy_with cancelled cast_in_range
+    cause_fits
+    class_of close_to closed closing_told concurred creates current_for early every exhausted filters fits fits_bits fresh_version full
+    grid_rule
+    heard in_range kind_fits line_in manages members moved new_modified new_whole none_twice not_current octal old_modified old_whole
+    one_each opened
     order own_cancel owner_of partner_of resolved retired retires retries_fit retries_in_range rule selected_for sets_apart settled settles
-    settling_told sides_needed skipped sound_books sound_codes sound_filters sound_line sound_lines sound_marks sound_splits sound_table sound_version
-    standing_of step unawaited unfit unready unsound used well_formed window_marked window_runs window_spent window_turned with_octal with_used
+    settling_told sides_needed skipped sound_books sound_codes sound_filters sound_line sound_lines sound_marks sound_splits sound_table
+    sound_version
+    standing_of step unawaited unfit unready unsound used well_formed window_marked window_runs window_spent window_turned with_octal
+    with_used
     member mask_of meet size exchanged
 an_instance = record {
   premises = record { sound = refl; free = omega arith; formed = with refl (with refl (with refl none)) };

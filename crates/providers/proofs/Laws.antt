@@ -27,7 +27,8 @@ use Rattle.providers.specs.Growth.{mark_of, adds_to, grown_by, listed_to}
 
 -- ---- a step of the readers
 
-pub listed_none : (l : List Provider) → ◌≡◌ {A = Listed} (record { sound = true; marks = record { present = 0; local = 0 } }) (listed_to l 0)
+pub listed_none : (l : List Provider) → ◌≡◌ {A =
+    Listed} (record { sound = true; marks = record { present = 0; local = 0 } }) (listed_to l 0)
 unfolding listed_to
 listed_none l = refl
 
@@ -99,7 +100,8 @@ sound_more l n h =
 
 -- what the first n records say, as a whole
 abbrev partly : List Provider → ℕ → Listed
-partly l n = cond (sound_to l n) (record { sound = true; marks = record { present = mask_of (present_at l) n; local = mask_of (local_at l) n } })
+partly l n =
+    cond (sound_to l n) (record { sound = true; marks = record { present = mask_of (present_at l) n; local = mask_of (local_at l) n } })
     unsound
 
 listed_partly : (l : List Provider) (n : ℕ) → n ≤ length l → listed_to l n ≡ partly l n

@@ -6,7 +6,8 @@ use native.Mathlib.Nat.{suc-mul}
 use native.Mathlib.Omega.{arith}
 use native.Mathlib.Numerals.{add-one}
 use mathlib.Core.Bool.{Bool}
-use lib.ListN.{length, take, drop, get_or, set, replicate, length-append, length-take, length-drop, length-set, length-map, length-replicate}
+use lib.ListN.{length, take, drop, get_or, set, replicate, length-append, length-take, length-drop, length-set, length-map}
+use lib.ListN.{length-replicate}
 use lib.ListN.{get_or-append}
 use lib.Seq.{slice, set_split, set-append_left, take-append-le, take_at, drop_at, drop-append-add}
 use Rattle.model.specs.declared.Version.{Version}

@@ -117,15 +117,18 @@ test_is true h l s w k = apart_is h l s w k
 test_is false h l s w k = refl
 
 module _ (h : ℕ) (l s w : Bool) (k : h < 8) where
-  now_live : (b : Bool) → eqb (bit_and (cond b h 0) (bits_of l s w)) 0 ≡ true → is_live (cond b h 0 + bits_of l s w) ≡ either b (is_live h) l
+  now_live : (b : Bool) → eqb (bit_and (cond b h 0) (bits_of l s w)) 0 ≡ true → is_live (cond b h 0 + bits_of l s w)
+      ≡ either b (is_live h) l
   now_live true e = sum_live h l s w k e
   now_live false e = sum_live 0 l s w none e
 
-  now_sent : (b : Bool) → eqb (bit_and (cond b h 0) (bits_of l s w)) 0 ≡ true → is_sent (cond b h 0 + bits_of l s w) ≡ either b (is_sent h) s
+  now_sent : (b : Bool) → eqb (bit_and (cond b h 0) (bits_of l s w)) 0 ≡ true → is_sent (cond b h 0 + bits_of l s w)
+      ≡ either b (is_sent h) s
   now_sent true e = sum_sent h l s w k e
   now_sent false e = sum_sent 0 l s w none e
 
-  now_work : (b : Bool) → eqb (bit_and (cond b h 0) (bits_of l s w)) 0 ≡ true → is_work (cond b h 0 + bits_of l s w) ≡ either b (is_work h) w
+  now_work : (b : Bool) → eqb (bit_and (cond b h 0) (bits_of l s w)) 0 ≡ true → is_work (cond b h 0 + bits_of l s w)
+      ≡ either b (is_work h) w
   now_work true e = sum_work h l s w k e
   now_work false e = sum_work 0 l s w none e
 

@@ -2,7 +2,8 @@
 #![tactic(auto)]
 
 ghost use Rattle.std.specs.Prelude.{◌≡◌, cond, ◌<◌, eqb};
-ghost use Rattle.model.specs.Creates.{new_joined, old_joined, new_absent, old_absent, new_in, old_in, by_new, new_from, old_from, status_by};
+ghost use Rattle.model.specs.Creates.{new_joined, old_joined, new_absent, old_absent, new_in, old_in, by_new, new_from, old_from};
+ghost use Rattle.model.specs.Creates.{status_by};
 ghost use Rattle.model.specs.Creates.{no_broadcast, fresh_numbered, fits, first_due, agrees, concurred};
 ghost use Rattle.model.specs.Changes.{new_modified, old_modified, modified, turned, cancelled, acknowledged, own_cancel, resolved};
 ghost use Rattle.model.specs.Changes.{window_turned, window_marked, window_spent, awaits_old};

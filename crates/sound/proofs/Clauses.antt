@@ -9,7 +9,8 @@ use Rattle.model.specs.declared.Version.{Version}
 use Rattle.model.specs.Numbers.{ten_digits, is_provider, is_set, is_time, is_number}
 use Rattle.model.proofs.Lists.{conj, conj_at, conj_all}
 use Rattle.model.specs.Basics.{none, with}
-use Rattle.model.specs.Sound.{retries_in_range, cast_in_range, in_range, providers_fit, new_whole, old_whole, one_created, sides_needed, cause_fits}
+use Rattle.model.specs.Sound.{retries_in_range, cast_in_range, in_range, providers_fit, new_whole, old_whole, one_created, sides_needed}
+use Rattle.model.specs.Sound.{cause_fits}
 use Rattle.model.specs.Sound.{is_status}
 use Rattle.model.specs.Sound.{canceller_fits, sets_apart, retries_fit, start_fits, waiting_fits, purpose_fits, live_fits, live_confirmed}
 use Rattle.model.specs.Sound.{within_fits, sound_version}

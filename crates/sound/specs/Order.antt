@@ -3,7 +3,8 @@
 use Rattle.std.specs.Prelude.{◌^◌, Bool, ◌&&◌, ltb}
 use Rattle.model.specs.declared.Version.{Version}
 use Rattle.model.specs.Numbers.{ten_digits, is_provider, is_time, is_number}
-use Rattle.model.specs.Sound.{providers_fit, new_whole, old_whole, cause_fits, canceller_fits, start_fits, waiting_fits, live_confirmed, is_status}
+use Rattle.model.specs.Sound.{providers_fit, new_whole, old_whole, cause_fits, canceller_fits, start_fits, waiting_fits, live_confirmed}
+use Rattle.model.specs.Sound.{is_status}
 use Rattle.model.specs.Sound.{is_purpose, is_canceller, within_fits}
 use Rattle.sets.specs.Order.{sets_fit, retries_sound}
 use Rattle.sound.specs.Marks.{marks_fit}

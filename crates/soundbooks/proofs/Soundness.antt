@@ -11,10 +11,12 @@ use lib.ListN.{length, length-map}
 use Rattle.systems.specs.Set.{member}
 use Rattle.model.specs.Basics.{all}
 use Rattle.model.specs.Numbers.{is_code, is_provider}
-use Rattle.model.specs.Books.{Owned, Filter, Split, sound_marks, codes_above, sound_codes, filters_above, sound_filters, unsplit, split_once}
+use Rattle.model.specs.Books.{Owned, Filter, Split, sound_marks, codes_above, sound_codes, filters_above, sound_filters, unsplit}
+use Rattle.model.specs.Books.{split_once}
 use Rattle.model.specs.Books.{sound_splits, sound_books}
 use Rattle.model.specs.declared.Marks.{Marks}
-use Rattle.books.specs.Packed.{book_bytes, row_places, split_places, head_of, code_place, filter_place, split_place, owned_of, filter_of, split_of}
+use Rattle.books.specs.Packed.{book_bytes, row_places, split_places, head_of, code_place, filter_place, split_place, owned_of, filter_of}
+use Rattle.books.specs.Packed.{split_of}
 use Rattle.books.specs.Packed.{used_from, packed_from, sound_bytes}
 use Rattle.books.specs.Places.{rest_of}
 use Rattle.books.proofs.Places.{used_more, used-length}
@@ -65,13 +67,15 @@ codes_sound : (m : Marks) (w : ℕ → ℕ)
     → scan (row_test false m) w row_places 0 0 ≡ (packed_from w row_places 0 && sound_codes m (map owned_of (used_from w row_places 0)))
 unfolding sound_codes
 codes_sound m w = scan_is (row_test false m) w row_places 0 0
-    ∙ ap (λ (b : Bool). packed_from w row_places 0 && b) (sym (rw (short owned_of w row_places) (codes-chain m 0 (used_from w row_places 0))))
+    ∙ ap (λ (b : Bool). packed_from w row_places 0 && b)
+    (sym (rw (short owned_of w row_places) (codes-chain m 0 (used_from w row_places 0))))
 
 filters_sound : (m : Marks) (w : ℕ → ℕ)
     → scan (row_test true m) w row_places 0 0 ≡ (packed_from w row_places 0 && sound_filters m (map filter_of (used_from w row_places 0)))
 unfolding sound_filters
 filters_sound m w = scan_is (row_test true m) w row_places 0 0
-    ∙ ap (λ (b : Bool). packed_from w row_places 0 && b) (sym (rw (short filter_of w row_places) (filters-chain m 0 (used_from w row_places 0))))
+    ∙ ap (λ (b : Bool). packed_from w row_places 0 && b)
+    (sym (rw (short filter_of w row_places) (filters-chain m 0 (used_from w row_places 0))))
 
 splits_sound : (w : ℕ → ℕ)
     → scan split_test w split_places 0 0 ≡ (packed_from w split_places 0 && sound_splits (map split_of (used_from w split_places 0)))
@@ -89,7 +93,8 @@ pub sound_parts : (m : Marks) (bs : List ℕ)
     && (scan (row_test true m) (filter_place bs) row_places 0 0 && scan split_test (split_place bs) split_places 0 0)))))
 unfolding sound_bytes sound_books
 sound_parts m bs = rw (codes_sound m (code_place bs), filters_sound m (filter_place bs), splits_sound (split_place bs))
-    (parts (eqb (length bs) book_bytes) (eqb (head_of bs) 0) (packed_from (code_place bs) row_places 0) (packed_from (filter_place bs) row_places 0)
+    (parts (eqb (length bs) book_bytes) (eqb (head_of bs) 0) (packed_from (code_place bs) row_places 0)
+    (packed_from (filter_place bs) row_places 0)
     (packed_from (split_place bs) split_places 0) (sound_marks m) _ _ _)
   where
     parts : (l h c f s m x y z : Bool) → (l && h && c && f && s && (m && x && y && z))

@@ -34,7 +34,8 @@ above_at (v ∷ vs) k zero r h = r.0
 above_at (v ∷ vs) k (suc i) r h = lt_trans r.0 (above_at vs (key_for v) i r.1 (le_of_suc-le-suc h))
 
 -- keys rise with places
-pub rises_at : (vs : List Version) (k i j : ℕ) → RisingFrom k vs → i < j → j < length vs → key_for (version_at vs i) < key_for (version_at vs j)
+pub rises_at : (vs : List Version) (k i j : ℕ) → RisingFrom k vs → i < j → j < length vs
+    → key_for (version_at vs i) < key_for (version_at vs j)
 rises_at [] k i j r l h = absurd (not-suc-le-zero h)
 rises_at (v ∷ vs) k i zero r l h = absurd (not-suc-le-zero l)
 rises_at (v ∷ vs) k zero (suc j) r l h = above_at vs (key_for v) j r.1 (le_of_suc-le-suc h)

@@ -167,4 +167,5 @@ pub lower_more : (j k : ℕ) → j ≤ k → (xs : List ℕ) → lower_of j xs �
 unfolding lower_of
 lower_more j k h [] = zero-le
 lower_more j k h (x ∷ xs) =
-    past_more (ltb x j) (ltb x k) (lower_of j xs) (lower_of k xs) (λ q. lt-ltb x k (lt_of_lt_of_le (ltb-true x j q) h)) (lower_more j k h xs)
+    past_more (ltb x j) (ltb x k) (lower_of j xs) (lower_of k xs) (λ q. lt-ltb x k (lt_of_lt_of_le (ltb-true x j q) h))
+    (lower_more j k h xs)

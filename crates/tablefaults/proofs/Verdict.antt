@@ -50,7 +50,8 @@ cast_ranges c = go (leb c.purpose 3) (ltb c.start (2 ^ 32)) (is_set c.confirmed)
 
 -- the clauses by itself are those of a sound version
 pub alone_sound : (v : Version)
-    → (all_hold (range_clauses v) && (all_hold (side_clauses v) && (all_hold (cast_clauses v) && all_hold (type_clauses v)))) ≡ sound_version v
+    → (all_hold (range_clauses v) && (all_hold (side_clauses v) && (all_hold (cast_clauses v) && all_hold (type_clauses v))))
+    ≡ sound_version v
 unfolding sound_version in_range
 alone_sound v = rw (cast_ranges v.cast) (simp (and_assoc, and-true))
 

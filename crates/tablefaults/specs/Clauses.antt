@@ -7,9 +7,11 @@ use Rattle.faults.specs.Faults.{Clause, alone, beside, found_at, first_broken, b
 use Rattle.model.specs.declared.Broadcast.{Broadcast}
 use Rattle.model.specs.declared.Version.{Version}
 use Rattle.model.specs.Numbers.{ten_digits, is_provider, is_set, is_time, is_number}
-use Rattle.model.specs.Sound.{retries_in_range, providers_fit, new_whole, old_whole, one_created, sides_needed, cause_fits, canceller_fits, is_status}
+use Rattle.model.specs.Sound.{retries_in_range, providers_fit, new_whole, old_whole, one_created, sides_needed, cause_fits, canceller_fits}
+use Rattle.model.specs.Sound.{is_status}
 use Rattle.model.specs.Sound.{is_purpose, is_canceller}
-use Rattle.model.specs.Sound.{sets_apart, retries_fit, start_fits, waiting_fits, purpose_fits, live_fits, live_confirmed, live, sends, worked}
+use Rattle.model.specs.Sound.{sets_apart, retries_fit, start_fits, waiting_fits, purpose_fits, live_fits, live_confirmed, live, sends}
+use Rattle.model.specs.Sound.{worked}
 use Rattle.model.specs.Sound.{within_fits, most_rows}
 use Rattle.words.specs.declared.Words.{Words}
 use Rattle.words.specs.Size.{ROW}

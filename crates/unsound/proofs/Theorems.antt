@@ -81,7 +81,8 @@ module _ (t p b : List ℕ) where
   fits x q = rw q
 
   -- TABLES: clause 0 exactly where the check of the table with what it is lent with answers 0
-  pub table_faultless : Bytes t → is_faultless (fault_in t p b) ≡ eqb (checked_table (soundness_lent (listed (map entry_of p)) b t)).outcome 0
+  pub table_faultless : Bytes t → is_faultless (fault_in t p b)
+      ≡ eqb (checked_table (soundness_lent (listed (map entry_of p)) b t)).outcome 0
   table_faultless y = at (soundness_of t) refl
     where
       L : Listed
@@ -89,7 +90,8 @@ module _ (t p b : List ℕ) where
 
       -- the rows are sound
       by : (n : ℕ) → soundness_of t ≡ Sound n → SoundTable t n → (x : Bool) → books_fit L b ≡ x → (k : Bool)
-          → sound_lines (line_by b) (decode t) ≡ k → is_faultless (fault_beyond t p b) ≡ eqb (checked_table (soundness_lent L b t)).outcome 0
+          → sound_lines (line_by b) (decode t) ≡ k → is_faultless (fault_beyond t p b)
+          ≡ eqb (checked_table (soundness_lent L b t)).outcome 0
       by n e s true q true k =
           ap is_faultless (sym (no_fault n s (fits true q) k))
           ∙ ap (λ (x : Soundness). eqb (checked_table x).outcome 0) (lent_sound_lem L b t n e q k)

@@ -7,7 +7,8 @@ use Rattle.batch.proofs.Loops.{Here, fits-behind, outs_room, here_first, went_fu
 use Rattle.batch.proofs.all.Given as goal
 
 abbrev pub invariant-loop-i : goal.invariant-loop-i
-invariant-loop-i l = Here l.l l.books l.most l.events l.initial.table l.initial.tray l.initial.outs l.table l.tray l.outs l.used l.messages l.i
+invariant-loop-i l =
+    Here l.l l.books l.most l.events l.initial.table l.initial.tray l.initial.outs l.table l.tray l.outs l.used l.messages l.i
 
 abbrev pub decreases-loop-i : goal.decreases-loop-i
 decreases-loop-i l = l.count - l.i

@@ -8,7 +8,8 @@ use Rattle.books.specs.Search.{owner_by}
 use Rattle.books.proofs.owner.Given as goal
 
 abbrev pub invariant-loop-i : goal.invariant-loop-i
-invariant-loop-i l = owner_by l.code (rest_of (code_place l.books) row_places 0) ≡ owner_by l.code (rest_of (code_place l.books) row_places l.i)
+invariant-loop-i l =
+    owner_by l.code (rest_of (code_place l.books) row_places 0) ≡ owner_by l.code (rest_of (code_place l.books) row_places l.i)
 
 abbrev pub decreases-loop-i : goal.decreases-loop-i
 decreases-loop-i l = row_places - l.i

@@ -12,7 +12,9 @@ use Rattle.linefaults.specs.Clauses.{row_found, line_fault}
 use Rattle.linefaults.proofs.fault.Given as goal
 
 abbrev pub invariant-loop-i : goal.invariant-loop-i
-invariant-loop-i l = (l.i ≤ l.n) × (line_fault (line_in (splits_of l.books)) (decode l.t) ≡ first_fault (row_found (line_in (splits_of l.books)) (decode l.t)) (l.n - l.i) l.i)
+invariant-loop-i l =
+    (l.i ≤ l.n) × (line_fault (line_in (splits_of l.books)) (decode l.t)
+    ≡ first_fault (row_found (line_in (splits_of l.books)) (decode l.t)) (l.n - l.i) l.i)
 
 abbrev pub decreases-loop-i : goal.decreases-loop-i
 decreases-loop-i l = l.n - l.i

@@ -21,7 +21,10 @@ load-v-requires c =
 pub line_names-names-requires : goal.line_names-names-requires
 unfolding unpack
 line_names-names-requires c =
-    record { books_len = c.requires.books_len.0; books_value = (c.requires.books_len.1, subst (λ (v : Version). v.id.tn.0 < 17179869184) (sym c.load-v.ensures) (tn_fits _)) }
+    record {
+      books_len = c.requires.books_len.0;
+      books_value = (c.requires.books_len.1, subst (λ (v : Version). v.id.tn.0 < 17179869184) (sym c.load-v.ensures) (tn_fits _));
+    }
 
 pub returns-then-tn-names : goal.returns-then-tn-names
 returns-then-tn-names c =

@@ -12,7 +12,9 @@ use Rattle.linefaults.proofs.Rivals.{rival_end, rival-here, rival-next}
 use Rattle.linefaults.proofs.rival.Given as goal
 
 abbrev pub invariant-loop-j : goal.invariant-loop-j
-invariant-loop-j l = (l.j ≤ l.i) × (rival_under l.n l.names.low.0 l.names.high.0 (decode l.t) l.v l.i ≡ rival_under l.n l.names.low.0 l.names.high.0 (decode l.t) l.v l.j)
+invariant-loop-j l =
+    (l.j ≤ l.i) × (rival_under l.n l.names.low.0 l.names.high.0 (decode l.t) l.v l.i
+    ≡ rival_under l.n l.names.low.0 l.names.high.0 (decode l.t) l.v l.j)
 
 abbrev pub decreases-loop-j : goal.decreases-loop-j
 decreases-loop-j l = l.j

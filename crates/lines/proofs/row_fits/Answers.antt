@@ -20,7 +20,11 @@ nobody-requires c =
     let w = c.head-w in
     let vs = decode a.t.now in
     let g = tells a.t.now a.n a.i w.result c.requires.sound_table c.requires.c_bound.1 w.ensures (omega arith) in
-    record { sound_table = c.requires.sound_table; at_value = c.requires.at_value ∙ ap (λ (y : ℕ). place_in ((a.c * 10000 + y % 10000) * 65536 + 0) vs) (sym g.tn) }
+    record {
+      sound_table = c.requires.sound_table;
+      at_value = c.requires.at_value
+          ∙ ap (λ (y : ℕ). place_in ((a.c * 10000 + y % 10000) * 65536 + 0) vs) (sym g.tn);
+    }
 
 pub returns-then-nobody : goal.returns-then-nobody
 returns-then-nobody c =
@@ -49,7 +53,11 @@ spared-requires c =
     let w = c.head-w in
     let vs = decode a.t.now in
     let g = tells a.t.now a.n a.i w.result c.requires.sound_table c.requires.c_bound.1 w.ensures (omega arith) in
-    record { sound_table = c.requires.sound_table; at_value = c.requires.at_value ∙ ap (λ (y : ℕ). place_in ((a.c * 10000 + y % 10000) * 65536 + 0) vs) (sym g.tn) }
+    record {
+      sound_table = c.requires.sound_table;
+      at_value = c.requires.at_value
+          ∙ ap (λ (y : ℕ). place_in ((a.c * 10000 + y % 10000) * 65536 + 0) vs) (sym g.tn);
+    }
 
 pub returns-then-absent : goal.returns-then-absent
 returns-then-absent c =

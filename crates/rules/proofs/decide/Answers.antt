@@ -12,13 +12,19 @@ pub on_answer-requires : goal.on_answer-requires
 on_answer-requires c =
     let no = sym c.is_create.ensures ∙ c.if-is_create.false in
     let q = c.in-One.is in
-    record { e_value = (c.requires.e_value.0, c.requires.e_value.1, subst Kept q (c.requires.kept no)); asked_value = (q, sym c.is_answer.ensures ∙ c.if-is_answer.true) }
+    record {
+      e_value = (c.requires.e_value.0, c.requires.e_value.1, subst Kept q (c.requires.kept no));
+      asked_value = (q, sym c.is_answer.ensures ∙ c.if-is_answer.true);
+    }
 
 pub on_other-requires : goal.on_other-requires
 on_other-requires c =
     let no = sym c.is_create.ensures ∙ c.if-is_create.false in
     let q = c.in-One.is in
-    record { e_value = (c.requires.e_value.0, subst Kept q (c.requires.kept no)); asked_value = (q, no, sym c.is_answer.ensures ∙ c.if-is_answer.false) }
+    record {
+      e_value = (c.requires.e_value.0, subst Kept q (c.requires.kept no));
+      asked_value = (q, no, sym c.is_answer.ensures ∙ c.if-is_answer.false);
+    }
 
 pub returns-in-Nobody : goal.returns-in-Nobody
 returns-in-Nobody c =

@@ -8,7 +8,8 @@ other-o-requires c = let p = c.requires in grid_asks _ _ p.e_value.0 p.asked_val
 
 pub returns-then-number-ne0 : goal.returns-then-number-ne0
 returns-then-number-ne0 c =
-    refused_by_lem _ _ _ _ _ (other_judges _ _ _ _ _ c.requires.asked_value.0 _ c.requires.asked_value.1 c.requires.asked_value.2 c.other-o.ensures)
+    refused_by_lem _ _ _ _ _
+    (other_judges _ _ _ _ _ c.requires.asked_value.0 _ c.requires.asked_value.1 c.requires.asked_value.2 c.other-o.ensures)
     _ c.number.ensures c.if-number-ne0.true c.refused.ensures
 
 pub managed-requires : goal.managed-requires

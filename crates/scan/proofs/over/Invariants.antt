@@ -10,7 +10,9 @@ use Rattle.scan.specs.Sound.{scan_rows}
 use Rattle.scan.proofs.over.Given as goal
 
 abbrev pub invariant-loop-i : goal.invariant-loop-i
-invariant-loop-i l = (l.i ≤ l.n) × ((l.s.had < 8) × (scan_rows (Open l.i (group_of l.s)) (drop l.i (pieces_of l.t)) ≡ scan_rows (Open 0 start) (pieces_of l.t)))
+invariant-loop-i l =
+    (l.i ≤ l.n) × ((l.s.had < 8)
+    × (scan_rows (Open l.i (group_of l.s)) (drop l.i (pieces_of l.t)) ≡ scan_rows (Open 0 start) (pieces_of l.t)))
 
 abbrev pub decreases-loop-i : goal.decreases-loop-i
 decreases-loop-i l = l.n - l.i

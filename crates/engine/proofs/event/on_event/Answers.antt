@@ -9,7 +9,10 @@ use Rattle.engine.proofs.event.on_event.Goals as goal
 pub surveyed-f-requires : goal.surveyed-f-requires
 surveyed-f-requires c =
     let r = c.requires.ready.0 in
-    record { sound_table = c.requires.sound_table; books_len = (sound_length _ _ r.sound, sound_splits_lem _ _ r.sound, (fields c.args.e r.formed).tn) }
+    record {
+      sound_table = c.requires.sound_table;
+      books_len = (sound_length _ _ r.sound, sound_splits_lem _ _ r.sound, (fields c.args.e r.formed).tn);
+    }
 
 pub decide-v-requires : goal.decide-v-requires
 decide-v-requires c =
@@ -21,7 +24,8 @@ pub apply-requires : goal.apply-requires
 apply-requires c =
     record {
       sound_table = c.requires.sound_table;
-      applicable = may_apply c.args.marks _ c.args.most _ _ c.args.e _ c.requires.sound_table c.requires.ready.2 c.requires.ready.0 c.requires.ready.1
+      applicable = may_apply c.args.marks _ c.args.most _ _ c.args.e _ c.requires.sound_table c.requires.ready.2 c.requires.ready.0
+          c.requires.ready.1
           c.surveyed-f.result c.known-k.result c.surveyed-f.ensures c.known-k.ensures c.decide-v.result c.decide-v.ensures;
     }
 

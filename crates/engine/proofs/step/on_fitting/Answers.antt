@@ -24,4 +24,5 @@ returns-in-Record c =
 pub returns-in-Malformed : goal.returns-in-Malformed
 returns-in-Malformed c =
     did_malformed _ _ _ (fit_malformed c.args.l c.args.books.now c.args.most c.args.event.now c.args.table.now
-    c.args.tray.now _ c.requires.sound_table c.requires.table_value.0 c.requires.table_value.1 (sym c.read-said.ensures ∙ c.in-Malformed.is))
+    c.args.tray.now _ c.requires.sound_table c.requires.table_value.0 c.requires.table_value.1
+    (sym c.read-said.ensures ∙ c.in-Malformed.is))

@@ -16,7 +16,10 @@ insert-requires c =
     let a = c.args in
     let s = c.requires.sound_table in
     let i : c.place-i.result ≡ place_in (key_for a.v) (decode a.t.now) = c.place-i.ensures in
-    record { i_le_n = omega (arith, i, place_le (key_for a.v) (decode a.t.now), s.count, s.whole, c.requires.fresh.free); in_bits = c.requires.fresh.small }
+    record {
+      i_le_n = omega (arith, i, place_le (key_for a.v) (decode a.t.now), s.count, s.whole, c.requires.fresh.free);
+      in_bits = c.requires.fresh.small;
+    }
 
 pub returns : goal.returns
 returns c =

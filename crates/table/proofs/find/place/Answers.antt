@@ -7,7 +7,11 @@ use Rattle.table.proofs.find.place.Goals as goal
 
 pub lower-requires : goal.lower-requires
 lower-requires c =
-    record { n_in_bounds = omega (arith, c.requires.sound_table.whole, c.requires.sound_table.room); rises = sound_rises c.args.t.now c.args.n c.requires.sound_table; k_bound = omega arith }
+    record {
+      n_in_bounds = omega (arith, c.requires.sound_table.whole, c.requires.sound_table.room);
+      rises = sound_rises c.args.t.now c.args.n c.requires.sound_table;
+      k_bound = omega arith;
+    }
 
 pub returns : goal.returns
 returns c =

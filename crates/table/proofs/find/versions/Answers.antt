@@ -9,7 +9,11 @@ use Rattle.table.proofs.find.versions.Goals as goal
 
 pub lower-from-requires : goal.lower-from-requires
 lower-from-requires c =
-    record { n_in_bounds = omega (arith, c.requires.sound_table.whole, c.requires.sound_table.room); rises = sound_rises c.args.t.now c.args.n c.requires.sound_table; k_bound = omega arith }
+    record {
+      n_in_bounds = omega (arith, c.requires.sound_table.whole, c.requires.sound_table.room);
+      rises = sound_rises c.args.t.now c.args.n c.requires.sound_table;
+      k_bound = omega arith;
+    }
 
 pub behind-to-requires : goal.behind-to-requires
 behind-to-requires c =
