@@ -1,6 +1,5 @@
 -- `closing::close_to` meets its contract. Assumes nothing.
 use Rattle.model.specs.Closing.{close_to}
-use borrow.Author.Rules.{rules}
 use Rattle.closing.proofs.close_to.Goals as goal
 
 pub returns : goal.returns

@@ -1,7 +1,6 @@
 -- `closing::closed` meets its contract. Assumes nothing.
 use mathlib.Core.Bool.{or-false}
 use Rattle.model.specs.Closing.{closed}
-use borrow.Author.Rules.{rules}
 use Rattle.closing.proofs.closed.Goals as goal
 
 pub returns : goal.returns

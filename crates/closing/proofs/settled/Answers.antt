@@ -1,6 +1,5 @@
 -- `closing::settled` meets its contract. Assumes nothing.
 use Rattle.model.specs.Closing.{settled}
-use borrow.Author.Rules.{rules}
 use Rattle.closing.proofs.settled.Goals as goal
 
 pub returns-then-is_open : goal.returns-then-is_open

@@ -1,5 +1,4 @@
 -- `closing::takes_over` meets its contract. Assumes nothing.
-use borrow.Author.Rules.{rules}
 use Rattle.closing.proofs.takes_over.Goals as goal
 
 pub returns : goal.returns
