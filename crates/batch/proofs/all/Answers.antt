@@ -3,7 +3,7 @@ use borrow.Author.Rules.{rules}
 use mathlib.Core.Path.{refl}
 use Prim.Native.Nat.{◌-◌}
 use native.Mathlib.Omega.{arith}
-use Rattle.batch.proofs.Loops.{Here, fits-behind, outs_room, here_first, went_full, went_all, here-next}
+use Rattle.batch.proofs.Loops.{fits-behind, outs_room, here_first, went_full, went_all, here-next}
 use Rattle.batch.proofs.all.Goals as goal
 
 pub loop-i-init : goal.loop-i-init

@@ -1,9 +1,8 @@
 -- `batch::all` meets its contract. Assumes nothing.
 use borrow.Author.Rules.{rules}
-use mathlib.Core.Path.{refl}
 use Prim.Native.Nat.{◌-◌}
 use native.Mathlib.Omega.{arith}
-use Rattle.batch.proofs.Loops.{Here, fits-behind, outs_room, here_first, went_full, went_all, here-next}
+use Rattle.batch.proofs.Loops.{Here}
 use Rattle.batch.proofs.all.Given as goal
 
 abbrev pub invariant-loop-i : goal.invariant-loop-i

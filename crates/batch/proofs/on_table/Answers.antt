@@ -2,7 +2,6 @@
 use mathlib.Core.Path.{sym, ap, ◌∙◌}
 use Prim.Native.Nat.{ℕ}
 use native.Mathlib.Omega.{arith}
-use borrow.Author.Tests.{not-true, not-false}
 use Rattle.checks.specs.Checks.{fitting}
 use Rattle.batch.proofs.Refusing.{went_refused, unfit, short, partly, wholly, went_whole}
 use borrow.Author.Rules.{rules}

@@ -1,13 +1,11 @@
 -- `classes::store` meets its contract: the places before i hold the numbers of providers 1 to i.
 -- Assumes nothing.
 use borrow.Author.Rules.{rules}
-use Prim.Native.Nat.{◌-◌, ◌≤◌}
-use mathlib.Core.Path.{◌≡◌, sym, ap, ◌∙◌}
+use Prim.Native.Nat.{◌-◌}
+use mathlib.Core.Path.{sym, ap, ◌∙◌}
 use native.Mathlib.Omega.{arith}
-use lib.ListN.{length, length-set, take}
+use lib.ListN.{length-set}
 use Rattle.model.specs.Selection.{class_number}
-use Rattle.selection.specs.Classes.{class_in}
-use Rattle.classes.specs.Classes.{numbers_of}
 use Rattle.classes.proofs.Writing.{none_yet, one_more, all_written}
 use Rattle.classes.proofs.store.Goals as goal
 

@@ -2,13 +2,11 @@
 -- Assumes nothing.
 use borrow.Author.Rules.{rules}
 use Prim.Native.Nat.{◌-◌, ◌≤◌}
-use mathlib.Core.Path.{◌≡◌, sym, ap, ◌∙◌}
+use mathlib.Core.Path.{◌≡◌}
 use native.Mathlib.Omega.{arith}
-use lib.ListN.{length, length-set, take}
-use Rattle.model.specs.Selection.{class_number}
+use lib.ListN.{length, take}
 use Rattle.selection.specs.Classes.{class_in}
 use Rattle.classes.specs.Classes.{numbers_of}
-use Rattle.classes.proofs.Writing.{none_yet, one_more, all_written}
 use Rattle.classes.proofs.store.Given as goal
 
 abbrev pub invariant-loop-i : goal.invariant-loop-i

@@ -2,7 +2,7 @@
 -- Assumes nothing.
 use borrow.Author.Rules.{rules}
 use mathlib.Core.Path.{sym, ◌∙◌}
-use borrow.Author.Tests.{not-true, not-false, eqb-true}
+use borrow.Author.Tests.{eqb-true}
 use Rattle.octets.proofs.Fields.{and_r}
 use Rattle.model.specs.Numbers.{ten_digits}
 use Rattle.classes.proofs.Writing.{unsound, malformed, classified}

@@ -1,10 +1,9 @@
 -- `fault` meets its contract: the rows that are left decide. Assumes nothing.
-use Prim.Native.Nat.{ℕ, ◌-◌, ◌≤◌}
-use mathlib.Core.Path.{◌≡◌, sym, ap, ◌∙◌}
+use Prim.Native.Nat.{◌-◌, ◌≤◌}
+use mathlib.Core.Path.{◌≡◌}
 use native.Mathlib.Omega.{arith}
 use borrow.Author.Rules.{rules}
 use Rattle.faults.specs.Faults.{first_fault}
-use Rattle.faults.proofs.Laws.{fault_here, fault_next, fault_end}
 use Rattle.model.specs.Books.{line_in}
 use Rattle.rows.specs.Table.{decode}
 use Rattle.books.specs.Packed.{splits_of}

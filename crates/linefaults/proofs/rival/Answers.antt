@@ -1,13 +1,12 @@
 -- `rival` meets its contract: the rows before row j decide, as those before row i. Assumes nothing.
-use Prim.Native.Nat.{◌-◌, ◌≤◌}
-use mathlib.Core.Path.{◌≡◌, refl, sym, ◌∙◌}
+use Prim.Native.Nat.{◌-◌}
+use mathlib.Core.Path.{refl, sym, ◌∙◌}
 use mathlib.Core.List.{[]}
 use native.Mathlib.Omega.{arith}
 use borrow.Author.Rules.{rules}
 use Rattle.row.specs.Layout.{unpack}
 use Rattle.rows.specs.Table.{decode}
 use Rattle.table.proofs.Sought.{sound_load}
-use Rattle.linefaults.specs.Clauses.{rival_under}
 use Rattle.linefaults.proofs.Rivals.{rival_end, rival-here, rival-next}
 use Rattle.linefaults.proofs.rival.Goals as goal
 

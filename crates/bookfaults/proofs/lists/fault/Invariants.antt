@@ -1,10 +1,9 @@
 -- `lists::fault` meets its contract. Assumes nothing.
-use Prim.Native.Nat.{ℕ, ◌-◌, ◌≤◌}
-use mathlib.Core.Path.{◌≡◌, sym, ap, ◌∙◌}
+use Prim.Native.Nat.{◌-◌, ◌≤◌}
+use mathlib.Core.Path.{◌≡◌}
 use native.Mathlib.Omega.{arith}
 use borrow.Author.Rules.{rules}
 use Rattle.faults.specs.Faults.{first_fault}
-use Rattle.faults.proofs.Laws.{fault_here, fault_next, fault_end}
 use Rattle.bookfaults.specs.Clauses.{place_in, place_found, list_fault}
 use Rattle.bookfaults.proofs.lists.fault.Given as goal
 

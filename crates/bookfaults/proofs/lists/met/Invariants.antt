@@ -1,11 +1,10 @@
 -- `lists::met` meets its contract. Assumes nothing.
 use Prim.Native.Nat.{◌-◌, ◌≤◌}
-use mathlib.Core.Path.{◌≡◌, refl, sym, ◌∙◌}
+use mathlib.Core.Path.{◌≡◌}
 use native.Mathlib.Omega.{arith}
 use borrow.Author.Rules.{rules}
 use Rattle.books.specs.Packed.{split_place}
 use Rattle.bookfaults.specs.Clauses.{met_by}
-use Rattle.bookfaults.proofs.Meets.{met_end, met_here, met_next}
 use Rattle.bookfaults.proofs.lists.met.Given as goal
 
 abbrev pub invariant-loop-j : goal.invariant-loop-j

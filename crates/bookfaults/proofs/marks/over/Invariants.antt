@@ -1,11 +1,9 @@
 -- `marks::over` meets its contract. Assumes nothing.
-use Prim.Native.Nat.{ℕ, ◌-◌, ◌≤◌}
-use mathlib.Core.Path.{◌≡◌, sym, ap, ◌∙◌}
+use Prim.Native.Nat.{◌-◌, ◌≤◌}
+use mathlib.Core.Path.{◌≡◌}
 use native.Mathlib.Omega.{arith}
 use borrow.Author.Rules.{rules}
-use lib.ListN.{length}
 use Rattle.faults.specs.Faults.{first_fault}
-use Rattle.faults.proofs.Laws.{fault_here, fault_next, fault_end}
 use Rattle.bookfaults.specs.Clauses.{mark_found}
 use Rattle.bookfaults.proofs.marks.over.Given as goal
 

@@ -1,7 +1,6 @@
 -- `step::on_table` meets its contract. Assumes nothing.
 use mathlib.Core.Path.{refl, sym, ap, ◌∙◌}
 use Prim.Native.Nat.{ℕ}
-use borrow.Author.Tests.{not-true, not-false}
 use Rattle.checks.specs.Checks.{fitting}
 use Rattle.engine.proofs.Stepping.{unfit_refused, did_refuse}
 use borrow.Author.Rules.{rules}
