@@ -58,7 +58,7 @@ fn grown(l: Listed, x: Provider, i: usize) -> Listed
     }
 }
 
-// The list as records: place i is provider i + 1. A thin loop over a slice of structs, proved by hand.
+// The list as records: place i is provider i + 1.
 pub fn marks_of_list(list: &[Provider]) -> Listed
     ensures { result ≡ listed list.now }
 {

@@ -1,4 +1,4 @@
--- `selection::one_pass` meets its contract: each need is answered by the law of its turn (proofs/Turns).
+-- `selection::one_pass` meets its contract: each goal is answered by the law of its turn (proofs/Turns).
 -- Assumes nothing.
 use Prim.Native.Nat.{◌+◌, ◌-◌, ◌≤◌, ◌<◌}
 use Rattle.books.specs.Packed.{row_places}
