@@ -8,7 +8,7 @@ use model::limit;
 
 pub mod fault;
 pub mod run;
-pub mod selection;
+pub mod selected;
 pub mod step;
 pub mod version;
 
