@@ -18,6 +18,7 @@ pub fn digit(b: u8) -> u8
 }
 
 // A number with one more digit; 0 where the byte is none, or the number too large.
+#[tactic(auto, using(crate::proofs::Spelling::no_digit))]
 fn longer(n: u64, b: u8) -> u64
     ensures { result ≡ longer_by n b }
 {

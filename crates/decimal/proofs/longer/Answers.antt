@@ -1,12 +1,7 @@
 -- `decimal::longer` meets its contract. Assumes nothing.
 use native.Mathlib.Omega.{arith}
-use Rattle.decimal.proofs.Spelling.{no_digit, no_room, put-behind}
+use Rattle.decimal.proofs.Spelling.{no_room, put-behind}
 use Rattle.decimal.proofs.longer.Goals as goal
-
-pub returns-then-last-gt9 : goal.returns-then-last-gt9
-returns-then-last-gt9 c =
-    let a = c.args in
-    no_digit a.n a.b _ c.digit-last.ensures (omega (arith, c.if-last-gt9.true))
 
 pub returns-then-n-ge-MOST_TENTH : goal.returns-then-n-ge-MOST_TENTH
 returns-then-n-ge-MOST_TENTH c =
@@ -16,4 +11,4 @@ returns-then-n-ge-MOST_TENTH c =
 pub returns : goal.returns
 returns c =
     let a = c.args in
-    put-behind a.n a.b _ c.digit-last.ensures (omega (arith, c.if-last-gt9.false)) (omega (arith, c.if-n-ge-MOST_TENTH.false))
+    put-behind a.n a.b _ c.digit-last.ensures (omega arith) (omega arith)

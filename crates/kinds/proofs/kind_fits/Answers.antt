@@ -1,10 +1,10 @@
 -- `kinds::kind_fits` meets its contract. Assumes nothing.
 use mathlib.Core.Path.{◌≡◌, ◌∙◌, sym}
+use mathlib.Core.Logic.{⊎_elim}
 use native.Mathlib.Omega.{arith}
 use Rattle.model.specs.Record.{kind_fits}
 use Rattle.kinds.proofs.KindCases.{above, plain}
 use Rattle.kinds.proofs.kind_fits.Goals as goal
-use Rattle.kinds.proofs.kind_fits.Goals.{in-10-1, in_default+else-kind-lt1+then-kind-lt16}
 
 pub returns-in-1 : goal.returns-in-1
 unfolding kind_fits
@@ -47,11 +47,11 @@ pub returns-in-5-to-8 : goal.returns-in-5-to-8
 unfolding kind_fits
 returns-in-5-to-8 c =
     c.plainly.ensures
-    ∙ elim c.in-5-to-8-1.branch [
-      | in-10-1 w ↦
-          let z : c.args.e.kind ≡ 10 = omega arith in
-          simp z
-      | in_default+else-kind-lt1+then-kind-lt16 w ↦
-          plain c.args.e (omega arith) (omega arith) (λ q. omega arith) (λ q. omega arith) (λ q. omega arith) (λ q. omega arith)
-          (λ q. omega arith) (λ q. omega arith) (λ q. omega arith) (λ q. omega arith)
-    ]
+    ∙ ⊎_elim
+    (λ w.
+    let z : c.args.e.kind ≡ 10 = omega arith in
+    simp z)
+    (λ w.
+    plain c.args.e (omega arith) (omega arith) (λ q. omega arith) (λ q. omega arith) (λ q. omega arith) (λ q. omega arith)
+    (λ q. omega arith) (λ q. omega arith) (λ q. omega arith) (λ q. omega arith))
+    c.in-5-to-8-1.branch-raw

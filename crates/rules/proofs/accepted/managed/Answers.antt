@@ -4,10 +4,10 @@ use borrow.Author.Rules.{rules}
 use Rattle.rules.proofs.accepted.managed.Goals as goal
 
 pub returns-in-6 : goal.returns-in-6
-returns-in-6 c = managed_cancel _ _ _ _ _ _ _ c.in-6.is c.cancelled.ensures c.turned.ensures
+returns-in-6 c = search (rules, managed_cancel)
 
 pub returns-in-7 : goal.returns-in-7
-returns-in-7 c = managed_acknowledge _ _ _ _ _ _ _ c.in-7.is c.acknowledged.ensures c.turned-in-7.ensures
+returns-in-7 c = search (rules, managed_acknowledge)
 
 pub returns-in-8 : goal.returns-in-8
 returns-in-8 c = managed_resolve _ _ _ _ _ _ _ c.in-8.is c.resolved.ensures c.turned-in-8.ensures
