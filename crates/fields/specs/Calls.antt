@@ -34,9 +34,9 @@ pub record Narrow (kind sender other mark cause version time due within : ℕ) :
   pub kind_fits : kind < 256
   pub sender_fits : sender < 256
   pub other_fits : other < 256
-  pub mark-fits : mark < 256
+  pub mark_fits : mark < 256
   pub cause_fits : cause < 256
-  pub version-fits : version < 65536
+  pub version_fits : version < 65536
   pub time_fits : time < 4294967296
   pub due_fits : due < 4294967296
   pub within_fits : within < 256
