@@ -29,6 +29,7 @@ pub fn awaited(e: Event, v: Version) -> bool
 }
 
 // A silence with fewer than R retries used asks again.
+#[tactic(auto, unfolding(model::specs::Answers::again))]
 pub fn again(most: u8, e: Event, c: Broadcast) -> bool
     requires { (1 ≤ answering e) × (answering e ≤ last_provider) }
     ensures { result ≡ again most e c }
@@ -49,10 +50,10 @@ fn asked_again(p: u8, d: u8, c: Broadcast) -> Broadcast
     requires waits { Waits c p }
     ensures { result ≡ moves true true p d c }
 {
-    let left = retries::with_used(c.retries, p, d + 1);
-    let mut next = c;
-    next.retries = left;
-    next
+    Broadcast {
+        retries: retries::with_used(c.retries, p, d + 1),
+        ..c
+    }
 }
 
 // System p, which is waited for, leaves the waiting.
@@ -60,18 +61,25 @@ fn leaves(success: bool, p: u8, d: u8, c: Broadcast) -> Broadcast
     requires { Waits c p }
     ensures { result ≡ moves false success p d c }
 {
-    let left = retries::with_used(c.retries, p, 0);
-    let mut next = c;
-    next.retries = left;
-    next.waiting = systems::without(c.waiting, p);
+    let left = Broadcast {
+        waiting: systems::without(c.waiting, p),
+        retries: retries::with_used(c.retries, p, 0),
+        ..c
+    };
     if success {
-        next.confirmed = systems::with(c.confirmed, p);
-        return next;
+        Broadcast {
+            confirmed: systems::with(c.confirmed, p),
+            ..left
+        }
+    } else {
+        Broadcast {
+            failed: systems::with(c.failed, p),
+            ..left
+        }
     }
-    next.failed = systems::with(c.failed, p);
-    next
 }
 
+#[tactic(auto, using(crate::proofs::Arrive::few_used), unfolding(model::specs::Answers::moved))]
 fn moved(most: u8, e: Event, c: Broadcast) -> Broadcast
     requires most_le_most_retries { most ≤ most_retries }
     requires waits { Waits c (answering e) }
@@ -85,21 +93,16 @@ fn moved(most: u8, e: Event, c: Broadcast) -> Broadcast
     leaves(succeeds(e), p, d, c)
 }
 
-fn later(a: u32, b: u32) -> u32
-    ensures { result ≡ max a b }
-{
-    if a < b { b } else { a }
-}
-
 // The version after an awaited answer.
+#[tactic(auto, unfolding(model::specs::Answers::heard))]
 pub fn heard(most: u8, e: Event, v: Version) -> Version
     requires most_le_most_retries { most ≤ most_retries }
     requires waits { Waits v.cast (answering e) }
     ensures { result ≡ heard most e v }
 {
-    let cast = moved(most, e, v.cast);
-    let mut w = v;
-    w.stamp = later(v.stamp, e.time);
-    w.cast = cast;
-    w
+    Version {
+        stamp: v.stamp.max(e.time),
+        cast: moved(most, e, v.cast),
+        ..v
+    }
 }

@@ -6,6 +6,7 @@ ghost use Rattle.answers.specs.Octals.{Octals};
 
 use model::Retries;
 
+#[tactic(auto, unfolding(model::specs::Retries::octal))]
 fn digit(w: u64, q: u8) -> u8
     requires { q < 21 }
     ensures { (result ≡ octal q w) × (result < 8) }
@@ -13,6 +14,7 @@ fn digit(w: u64, q: u8) -> u8
     ((w >> (3 * q)) % 8) as u8
 }
 
+#[tactic(auto, using(crate::proofs::Shifts::old_part, crate::proofs::Shifts::sum_fits, crate::proofs::Shifts::put_is))]
 fn with_digit(w: u64, q: u8, d: u8) -> u64
     requires { (q < 21) × (d < 8) × (w < 2 ^ 63) }
     ensures { result ≡ with_octal q d w }
@@ -23,6 +25,7 @@ fn with_digit(w: u64, q: u8, d: u8) -> u64
 }
 
 // The retries that system p has used.
+#[tactic(auto, unfolding(model::specs::Retries::used))]
 pub fn used(r: Retries, p: u8) -> u8
     requires { (1 ≤ p) × (p ≤ last_provider) }
     ensures { (result ≡ used r p) × (result < 8) }
@@ -37,20 +40,26 @@ pub fn used(r: Retries, p: u8) -> u8
 }
 
 // System p has used d.
+#[tactic(auto, unfolding(model::specs::Retries::with_used))]
 pub fn with_used(r: Retries, p: u8, d: u8) -> Retries
     requires le_p { (1 ≤ p) × (p ≤ last_provider) × (d < 8) }
     requires octals { Octals r }
     ensures { result ≡ with_used r p d }
 {
-    let mut next = r;
     if p <= 21 {
-        next.low = with_digit(r.low, p - 1, d);
-        return next;
+        return Retries {
+            low: with_digit(r.low, p - 1, d),
+            ..r
+        };
     }
     if p <= 42 {
-        next.mid = with_digit(r.mid, p - 22, d);
-        return next;
+        return Retries {
+            mid: with_digit(r.mid, p - 22, d),
+            ..r
+        };
     }
-    next.high = with_digit(r.high, p - 43, d);
-    next
+    Retries {
+        high: with_digit(r.high, p - 43, d),
+        ..r
+    }
 }

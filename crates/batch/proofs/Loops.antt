@@ -12,10 +12,10 @@ use lib.ListN.{length, take, drop, length-drop, drop_of_length-le}
 use lib.Seq.{drop-cons}
 use borrow.Author.Tests.{lt-leb, le-leb}
 use Rattle.packing.specs.Layout.{RECORD}
-use Rattle.providers.specs.declared.Listed.{Listed}
+use Rattle.model.specs.declared.Marks.{Marks}
 use Rattle.rows.proofs.Pieces.{chunks-length, get_d_chunks}
 use Rattle.scan.specs.Sound.{SoundTable}
-use Rattle.scan.specs.declared.Soundness.TheVariants.{Sound}
+use Rattle.std.specs.Prelude.{Option, Some}
 use Rattle.tray.specs.Tray.{places_in}
 use Rattle.checks.specs.Checks.{fitting, soundness_lent}
 use Rattle.engine.proofs.Keeping.{result_few}
@@ -37,13 +37,13 @@ fits-behind most y₀ y m h r =
 pub outs_room : (i n : ℕ) (o₀ o : List ℕ) → i < n → 2 * n ≤ length o₀ → length o ≡ length o₀ → 2 * i + 2 ≤ length o
 outs_room i n o₀ o h r e = omega arith
 
-module _ (l : Listed) (b : List ℕ) (most : ℕ) (es t₀ y₀ o₀ : List ℕ) where
+module _ (l : Option Marks) (b : List ℕ) (most : ℕ) (es t₀ y₀ o₀ : List ℕ) where
   abbrev whole : Stand
   whole = steps l b most (records_in es) (begin t₀ y₀ o₀)
 
   pub record Here (t y o : List ℕ) (used m i : ℕ) : Type 0 where
     pub sound : SoundTable t used
-    pub scanned : soundness_lent l b t ≡ Sound used
+    pub scanned : soundness_lent l b t ≡ Some used
     pub turns : i ≤ length es / RECORD
     pub room : 24 * m ≤ length y
     pub table_same : length t ≡ length t₀
@@ -51,7 +51,7 @@ module _ (l : Listed) (b : List ℕ) (most : ℕ) (es t₀ y₀ o₀ : List ℕ)
     pub outs_same : length o ≡ length o₀
     pub rest : steps l b most (drop i (records_in es)) (record { table = t; tray = y; outs = o; events = i; messages = m }) ≡ whole
 
-  pub here_first : (n : ℕ) → SoundTable t₀ n → soundness_lent l b t₀ ≡ Sound n → Here t₀ y₀ o₀ n 0 0
+  pub here_first : (n : ℕ) → SoundTable t₀ n → soundness_lent l b t₀ ≡ Some n → Here t₀ y₀ o₀ n 0 0
   here_first n s q = record {
     sound = s;
     scanned = q;
@@ -91,12 +91,16 @@ module _ (l : Listed) (b : List ℕ) (most : ℕ) (es t₀ y₀ o₀ : List ℕ)
         (sym (ap (λ (rs : List (List ℕ)). steps l b most rs S) (next_record i c) ∙ rw p) ∙ h.rest)
 
     -- no record is left
-    pub went_all : length es / RECORD ≤ i → Went 0 whole t y o (record { outcome = 0; events = i; messages = m })
+    went_all : length es / RECORD ≤ i → Went 0 whole t y o (record { outcome = 0; events = i; messages = m })
     unfolding steps
     went_all c =
         went S
         (sym (ap (λ (rs : List (List ℕ)). steps l b most rs S)
         (drop_of_length-le (records_in es) (subst (λ (n : ℕ). n ≤ i) (sym (chunks-length RECORD (length es / RECORD) es)) c))) ∙ h.rest)
+
+    pub went_done : i ≡ length es / RECORD → Went 0 whole t y o (record { outcome = 0; events = length es / RECORD; messages = m })
+    went_done e =
+        subst (λ (k : ℕ). Went 0 whole t y o (record { outcome = 0; events = k; messages = m })) e (went_all (omega arith))
 
     abbrev E : List ℕ
     E = take (24 * i + 24 - 24 * i) (drop (24 * i) es)

@@ -9,14 +9,14 @@ use lib.Dec.{eqb, leb}
 use lib.ListN.{length}
 use borrow.Author.Tests.{eq-eqb, ne_eqb, le-leb, lt-leb}
 use Rattle.packing.specs.Layout.{RECORD}
-use Rattle.providers.specs.declared.Listed.{Listed}
-use Rattle.scan.specs.declared.Soundness.TheVariants.{Unsound, Sound}
+use Rattle.model.specs.declared.Marks.{Marks}
+use Rattle.std.specs.Prelude.{Option, None, Some}
 use Rattle.tray.specs.Tray.{places_in}
 use Rattle.checks.specs.Checks.{fitting, soundness_lent}
 use Rattle.batch.specs.declared.Ran.{Ran}
 use Rattle.batch.specs.Batch.{records_in, Stand, steps, begin, refusal, leaves, refused_with, Went}
 
-module _ (l : Listed) (b : List ℕ) (most : ℕ) (es t y o : List ℕ) where
+module _ (l : Option Marks) (b : List ℕ) (most : ℕ) (es t y o : List ℕ) where
   abbrev N : ℕ
   N = refusal l b most es t y o
 
@@ -29,11 +29,11 @@ module _ (l : Listed) (b : List ℕ) (most : ℕ) (es t y o : List ℕ) where
       subst (λ (a : Ran). Went N (leaves l b most es t y o) t y o a) (sym e)
       (rw (q, ne_eqb k 0 z) (record { said = refl; done = refl; told = refl; left = refl; laid = refl; noted = refl }))
 
-  pub no_table : soundness_lent l b t ≡ Unsound → N ≡ 1
+  pub no_table : soundness_lent l b t ≡ None → N ≡ 1
   unfolding refusal
   no_table h = rw h
 
-  module _ (n : ℕ) (h : soundness_lent l b t ≡ Sound n) where
+  module _ (n : ℕ) (h : soundness_lent l b t ≡ Some n) where
     abbrev room : Bool
     room = leb (2 * (length es / RECORD)) (length o)
 
@@ -58,8 +58,9 @@ module _ (l : Listed) (b : List ℕ) (most : ℕ) (es t y o : List ℕ) where
   unfolding leaves
   went_whole t' y' o' r q w = rw q w
 
-pub went_is : (l k : Listed) (b : List ℕ) (most : ℕ) (es t y o t' y' o' : List ℕ) (r : Ran) → l ≡ k
-    → Went (refusal l b most es t y o) (leaves l b most es t y o) t' y' o' r
-    → Went (refusal k b most es t y o) (leaves k b most es t y o) t' y' o' r
-went_is l k b most es t y o t' y' o' r q w =
-    subst (λ (x : Listed). Went (refusal x b most es t y o) (leaves x b most es t y o) t' y' o' r) q w
+-- provider list, books or table are unsound
+pub went_unlent : (l k : Option Marks) (b : List ℕ) (most : ℕ) (es t y o : List ℕ) (r : Ran) → l ≡ k → soundness_lent l b t ≡ None
+    → r ≡ refused_with 1 → Went (refusal k b most es t y o) (leaves k b most es t y o) t y o r
+went_unlent l k b most es t y o r q h e =
+    subst (λ (x : Option Marks). Went (refusal x b most es t y o) (leaves x b most es t y o) t y o r) q
+    (went_refused l b most es t y o 1 r e (no_table l b most es t y o h) (λ z. omega (arith, z)))

@@ -9,12 +9,12 @@ use lib.ListN.{length}
 use borrow.Author.Tests.{ne_eqb}
 use Rattle.octets.specs.Octets.{Bytes}
 use Rattle.model.specs.Step.{PLACES}
-use Rattle.providers.specs.declared.Listed.{Listed}
+use Rattle.model.specs.declared.Marks.{Marks}
 use Rattle.rows.specs.Table.{decode}
 use Rattle.scan.specs.Sound.{SoundTable}
 use Rattle.checks.specs.Checks.{soundness_lent}
 use Rattle.checks.proofs.Lending.{lent_table}
-use Rattle.scan.specs.declared.Soundness.TheVariants.{Sound}
+use Rattle.std.specs.Prelude.{Option, Some}
 use Rattle.tray.specs.Tray.{places_in}
 use Rattle.engine.specs.Step.{is_table}
 use Rattle.engine.proofs.Keeping.{Again, again}
@@ -35,8 +35,8 @@ went_one n s t y o u z v a c p q = (
 )
 
 -- steps keep a table sound
-steps_sound : (l : Listed) (b : List ℕ) (most : ℕ) (rs : List (List ℕ)) (s : Stand) (n : ℕ) → SoundTable s.table n
-    → soundness_lent l b s.table ≡ Sound n
+steps_sound : (l : Option Marks) (b : List ℕ) (most : ℕ) (rs : List (List ℕ)) (s : Stand) (n : ℕ) → SoundTable s.table n
+    → soundness_lent l b s.table ≡ Some n
     → is_table (soundness_lent l b (steps l b most rs s).table) ≡ true
 unfolding steps
 steps_sound l b most [] s n h q = ap is_table q
@@ -51,7 +51,7 @@ steps_sound l b most (e ∷ rs) s n h q =
     go true p r = rw p r
     go false p r = rw p (ap is_table q)
 
-module _ (l : Listed) (b : List ℕ) (most : ℕ) (es t y₀ o : List ℕ) (t' y' o' : List ℕ) (r : Ran)
+module _ (l : Option Marks) (b : List ℕ) (most : ℕ) (es t y₀ o : List ℕ) (t' y' o' : List ℕ) (r : Ran)
     (w : Went (refusal l b most es t y₀ o) (leaves l b most es t y₀ o) t' y' o' r) where
   -- A run that is refused changes nothing: table, tray and outcome slice hold the bytes that they held before.
   pub run_refusal_keeps : (r.outcome ≡ 0 → ⊥) → (t' ≡ t) × (y' ≡ y₀) × (o' ≡ o) × (r.events ≡ 0) × (r.messages ≡ 0)
@@ -67,7 +67,7 @@ module _ (l : Listed) (b : List ℕ) (most : ℕ) (es t y₀ o : List ℕ) (t' y
       )
 
   -- A run on a sound table leaves a table that the soundness check accepts. [V12]
-  pub run_stays_sound : (n : ℕ) → Bytes t → soundness_lent l b t ≡ Sound n → is_table (soundness_lent l b t') ≡ true
+  pub run_stays_sound : (n : ℕ) → Bytes t → soundness_lent l b t ≡ Some n → is_table (soundness_lent l b t') ≡ true
   unfolding leaves
   run_stays_sound n y q = ap (λ (x : List ℕ). is_table (soundness_lent l b x)) w.left ∙ go (eqb (refusal l b most es t y₀ o) 0) refl
     where

@@ -10,10 +10,10 @@ use borrow.Rule.Slice.PartMut.{put_mid, Post-is}
 use Rattle.model.specs.Outcomes.{number_of}
 use Rattle.model.specs.Given.{Result}
 use Rattle.model.proofs.Outcomes.{number_small}
-use Rattle.providers.specs.declared.Listed.{Listed}
+use Rattle.model.specs.declared.Marks.{Marks}
 use Rattle.rows.specs.Table.{decode}
 use Rattle.scan.specs.Sound.{SoundTable}
-use Rattle.scan.specs.declared.Soundness.TheVariants.{Sound}
+use Rattle.std.specs.Prelude.{Option, Some}
 use Rattle.outcomes.specs.Answered.{noted}
 use Rattle.outcomes.specs.declared.Answer.{Answer}
 use Rattle.engine.specs.Event.{Did}
@@ -31,7 +31,7 @@ part_put y z k h =
     ap (λ (r : List ℕ). take k y ++ r)
     (ap (λ (r : List ℕ). z ++ r) (Post-is k (length y) y h ∙ drop-length y) ∙ append-nil z)
 
-module _ (l : Listed) (b : List ℕ) (most : ℕ) (e t y o : List ℕ) (i m : ℕ) (u z : List ℕ) (a : Answer) where
+module _ (l : Option Marks) (b : List ℕ) (most : ℕ) (e t y o : List ℕ) (i m : ℕ) (u z : List ℕ) (a : Answer) where
   abbrev k : ℕ
   k = 24 * m
 
@@ -51,7 +51,7 @@ module _ (l : Listed) (b : List ℕ) (most : ℕ) (e t y o : List ℕ) (i m : �
     pub count_small : a.count ≤ 63
     count_small = subst (λ (n : ℕ). n ≤ 63) (sym did.count) (result_few l b most e t (drop k y))
 
-    module _ (n : ℕ) (st : SoundTable t n) (sc : soundness_lent l b t ≡ Sound n) where
+    module _ (n : ℕ) (st : SoundTable t n) (sc : soundness_lent l b t ≡ Some n) where
       pub stays : Again l b t u
       stays = subst (λ (v : List ℕ). Again l b t v) (sym did.table) (again l b most e t (drop k y) n st sc)
 
@@ -67,7 +67,7 @@ module _ (l : Listed) (b : List ℕ) (most : ℕ) (e t y o : List ℕ) (i m : �
           messages = m + did.count j;
         };
         sound = subst (λ (v : ℕ). SoundTable u v) (sym q) stays.table;
-        scanned = stays.scanned ∙ ap Sound (sym q);
+        scanned = stays.scanned ∙ ap Some (sym q);
       }
 
       pub turned_at : (used : ℕ) → used ≡ length (decode u) → k ≤ length y → (outs : List ℕ) → outs ≡ noted o i a → (s : Stand) → s ≡ S

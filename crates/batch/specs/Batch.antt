@@ -1,15 +1,15 @@
 -- Many event records on one table: what repeated steps leave.
 -- Assumes nothing.
 use Rattle.std.specs.Prelude.{◌≡◌, ℕ, suc, ◌+◌, ◌*◌, ◌/◌, ◌%◌, cond, ◌&&◌, List, [], ◌∷◌, ◌++◌, eqb, leb, length, take, drop, set}
+use Rattle.std.specs.Prelude.{Option, Some}
 use Rattle.model.specs.Books.{sound_retries}
 use Rattle.packing.specs.Layout.{RECORD}
 use Rattle.model.specs.Outcomes.{number_of}
 use Rattle.model.specs.Given.{Result}
 use Rattle.model.specs.Step.{PLACES}
-use Rattle.providers.specs.declared.Listed.{Listed}
+use Rattle.model.specs.declared.Marks.{Marks}
 use Rattle.rows.specs.Chunks.{chunks}
 use Rattle.scan.specs.Sound.{SoundTable}
-use Rattle.scan.specs.declared.Soundness.TheVariants.{Sound}
 use Rattle.tray.specs.Tray.{message_size, places_in, put_all}
 use Rattle.engine.specs.Event.{table_after}
 use Rattle.checks.specs.Checks.{soundness_lent}
@@ -41,7 +41,7 @@ after x s = record {
   messages = s.messages + length x.sent;
 }
 
-module _ (l : Listed) (b : List ℕ) (most : ℕ) where
+module _ (l : Option Marks) (b : List ℕ) (most : ℕ) where
   -- the step of a record on what stands, with the tray behind the messages
   abbrev pub result_at : List ℕ → Stand → Result
   result_at e s = result_in l b most e s.table (behind s)
@@ -56,13 +56,13 @@ begin t y o = record { table = t; tray = y; outs = o; events = 0; messages = 0 }
 
 -- Outcome 1: the table or the books are unsound, R is above 7, the tray has fewer than 64 places, or the outcome slice fewer than two bytes
 -- an event; otherwise 2: the records are not whole.
-unfoldable pub refusal : Listed → List ℕ → ℕ → List ℕ → List ℕ → List ℕ → List ℕ → ℕ
+unfoldable pub refusal : Option Marks → List ℕ → ℕ → List ℕ → List ℕ → List ℕ → List ℕ → ℕ
 refusal l b most es t y o =
     cond (formed l b t && sound_retries most && leb PLACES (places_in y) && leb (2 * (length es / RECORD)) (length o))
     (cond (eqb (length es % RECORD) 0) 0 2) 1
 
 -- what a run leaves
-unfoldable pub leaves : Listed → List ℕ → ℕ → List ℕ → List ℕ → List ℕ → List ℕ → Stand
+unfoldable pub leaves : Option Marks → List ℕ → ℕ → List ℕ → List ℕ → List ℕ → List ℕ → Stand
 leaves l b most es t y o = cond (eqb (refusal l b most es t y o) 0) (steps l b most (records_in es) (begin t y o)) (begin t y o)
 
 -- the answer of a run that is refused
@@ -79,12 +79,12 @@ pub record Went (n : ℕ) (s : Stand) (after tray_after outs_after : List ℕ) (
   pub noted : outs_after ≡ s.outs
 
 -- A run with this provider list, these books, this R and these events: what it answers, and what the three slices hold after it.
-abbrev pub RunOn : Listed → List ℕ → ℕ → List ℕ → (table tray outs after tray_after outs_after : List ℕ) → Ran → Type 0
+abbrev pub RunOn : Option Marks → List ℕ → ℕ → List ℕ → (table tray outs after tray_after outs_after : List ℕ) → Ran → Type 0
 RunOn l b most es t y o after tray_after outs_after r =
     Went (refusal l b most es t y o) (leaves l b most es t y o) after tray_after outs_after r
 
 -- one event more, and the table is sound again
-pub record Turned (l : Listed) (b : List ℕ) (x : Result) (s u : Stand) (used : ℕ) : Type 0 where
+pub record Turned (l : Option Marks) (b : List ℕ) (x : Result) (s u : Stand) (used : ℕ) : Type 0 where
   pub is : u ≡ after x s
   pub sound : SoundTable u.table used
-  pub scanned : soundness_lent l b u.table ≡ Sound used
+  pub scanned : soundness_lent l b u.table ≡ Some used

@@ -1,6 +1,7 @@
 -- Where provider list and books are unsound: document 01's clauses under the numbers of docs/FAULTS.md, asked of one place after the other.
 -- A place of the books is a number, and 0 is a free one.
 -- Assumes nothing.
+use Rattle.std.specs.Prelude.{Option, Some, None}
 use Rattle.std.specs.Prelude.{ℕ, zero, suc, ◌/◌, ◌%◌, ◌^◌, Bool, cond, not, ◌&&◌, ◌||◌, List, [], ◌∷◌, map, eqb, ltb, leb, length, get_or}
 use Rattle.systems.specs.Set.{member}
 use Rattle.model.specs.Basics.{among}
@@ -8,18 +9,20 @@ use Rattle.model.specs.Numbers.{is_code, is_provider, last_provider}
 use Rattle.model.specs.declared.Marks.{Marks}
 use Rattle.faults.specs.declared.Found.{Found}
 use Rattle.faults.specs.declared.Fault.{Fault}
-use Rattle.faults.specs.Faults.{Clause, alone, beside, found_at, first_broken, nearest, broken, first_fault, or_else}
-use Rattle.providers.specs.Providers.{listed, entry_of}
+use Rattle.faults.specs.Faults.{Clause, alone, beside, once, first_broken, nearest, broken, first_fault, or_else}
+use Rattle.providers.specs.Providers.{listed, entry_of, marks_in}
+use Rattle.bookfaults.specs.declared.lists.Listing.{Listing}
+use Rattle.bookfaults.specs.declared.lists.Listing.TheVariants.{Codes, Filters, Pairs}
 use Rattle.books.specs.Packed.{book_bytes, row_places, split_places, head_of, code_place, filter_place, split_place}
 
 -- ---- the provider list [B1]
 
 -- byte i: 0 absent, 1 present, 3 present and runs a Local SMS
-abbrev pub mark_found : List ℕ → ℕ → Found
-mark_found p i = first_broken (alone 2 (among (get_or p i 0) (0 ∷ 1 ∷ 3 ∷ [])) ∷ []) (found_at 0 0)
+abbrev pub mark_found : List ℕ → ℕ → Option Found
+mark_found p i = first_broken (alone 2 (among (get_or p i 0) (0 ∷ 1 ∷ 3 ∷ [])) ∷ []) None
 
-unfoldable pub providers_fault : List ℕ → Fault
-providers_fault p = cond (leb (length p) last_provider) (first_fault (mark_found p) (length p) 0) (broken 1)
+unfoldable pub providers_fault : List ℕ → Option Fault
+providers_fault p = cond (leb (length p) last_provider) (first_fault (mark_found p) (length p) 0) (Some (broken 1))
 
 -- ---- places of the books: place i is x, and the one before it is `last`
 
@@ -63,26 +66,21 @@ pair_clauses other i last x =
     beside 13 (not (later i (eqb last 0))) i
     ∷ alone 14 (is_code (x / 2 ^ 32) && is_code (x % 2 ^ 32))
     ∷ alone 15 (not (eqb (x / 2 ^ 32) (x % 2 ^ 32)))
-    ∷ beside 16 (eqb other 0) other
+    ∷ once 16 other
     ∷ []
 
--- ---- the three lists, each named by its first number
-
-abbrev pub codes : ℕ
-codes = 5
-
-abbrev pub filters : ℕ
-filters = 9
-
-abbrev pub pairs : ℕ
-pairs = 13
+-- ---- the three lists
 
 -- the places of a list
-unfoldable pub place_in : ℕ → List ℕ → ℕ → ℕ
-place_in l bs = cond (eqb l codes) (code_place bs) (cond (eqb l filters) (filter_place bs) (split_place bs))
+abbrev pub place_in : Listing → List ℕ → ℕ → ℕ
+place_in Codes = code_place
+place_in Filters = filter_place
+place_in Pairs = split_place
 
-abbrev pub places_of : ℕ → ℕ
-places_of l = cond (eqb l codes) row_places (cond (eqb l filters) row_places split_places)
+abbrev pub places_of : Listing → ℕ
+places_of Codes = row_places
+places_of Filters = row_places
+places_of Pairs = split_places
 
 -- the place before place i, or 0
 abbrev pub last_at : (ℕ → ℕ) → ℕ → ℕ
@@ -92,26 +90,27 @@ last_at w (suc j) = w j
 abbrev pub met_by : (ℕ → ℕ) → ℕ → ℕ → ℕ
 met_by w i x = nearest (λ (j : ℕ). meets (w j) x) i
 
-abbrev pub clauses_in : ℕ → Marks → (ℕ → ℕ) → ℕ → List Clause
-clauses_in l m w i =
-    cond (eqb l codes) (code_clauses m i (last_at w i) (w i))
-    (cond (eqb l filters) (filter_clauses m i (last_at w i) (w i)) (pair_clauses (met_by w i (w i)) i (last_at w i) (w i)))
+abbrev pub clauses_in : Listing → Marks → (ℕ → ℕ) → ℕ → List Clause
+clauses_in Codes m w i = code_clauses m i (last_at w i) (w i)
+clauses_in Filters m w i = filter_clauses m i (last_at w i) (w i)
+clauses_in Pairs m w i = pair_clauses (met_by w i (w i)) i (last_at w i) (w i)
 
 -- what place i breaks: a free place nothing
-unfoldable pub place_found : ℕ → Marks → (ℕ → ℕ) → ℕ → Found
-place_found l m w i = cond (eqb (w i) 0) (found_at 0 0) (first_broken (clauses_in l m w i) (found_at 0 0))
+unfoldable pub place_found : Listing → Marks → (ℕ → ℕ) → ℕ → Option Found
+place_found l m w i = cond (eqb (w i) 0) None (first_broken (clauses_in l m w i) None)
 
-unfoldable pub list_fault : ℕ → Marks → List ℕ → Fault
+unfoldable pub list_fault : Listing → Marks → List ℕ → Option Fault
 list_fault l m bs = first_fault (place_found l m (place_in l bs)) (places_of l) 0
 
 -- ---- provider list and books
 
 -- the length and the head of the books, and then list after list
-unfoldable pub bytes_fault : Marks → List ℕ → Fault
+unfoldable pub bytes_fault : Marks → List ℕ → Option Fault
 bytes_fault m bs =
     cond (eqb (length bs) book_bytes)
-    (cond (eqb (head_of bs) 0) (or_else (list_fault codes m bs) (or_else (list_fault filters m bs) (list_fault pairs m bs))) (broken 4))
-    (broken 3)
+    (cond (eqb (head_of bs) 0) (or_else (list_fault Codes m bs) (or_else (list_fault Filters m bs) (list_fault Pairs m bs)))
+    (Some (broken 4)))
+    (Some (broken 3))
 
-unfoldable pub books_fault : List ℕ → List ℕ → Fault
-books_fault p bs = or_else (providers_fault p) (bytes_fault (listed (map entry_of p)).marks bs)
+unfoldable pub books_fault : List ℕ → List ℕ → Option Fault
+books_fault p bs = or_else (providers_fault p) (bytes_fault (marks_in (listed (map entry_of p))) bs)

@@ -1,6 +1,6 @@
-// Codes, filters and pairs, place after place; each list is named by its first clause. [B2, B3, B4]
-ghost use Rattle.std.specs.Prelude.{◌≡◌, ◌<◌, ◌≤◌, length};
-ghost use Rattle.faults.specs.Faults.{found_at, first_broken};
+// Codes, filters and pairs, place after place. [B2, B3, B4]
+ghost use Rattle.std.specs.Prelude.{◌≡◌, ◌<◌, ◌≤◌, length, None};
+ghost use Rattle.faults.specs.Faults.{first_broken};
 ghost use Rattle.books.specs.Packed.{book_bytes, split_places, split_place};
 ghost use Rattle.bookfaults.specs.Clauses.{here, code_clauses, filter_clauses, meets, pair_clauses, place_in, places_of, last_at, met_by};
 ghost use Rattle.bookfaults.specs.Clauses.{place_found, list_fault};
@@ -9,38 +9,8 @@ use faults::{Fault, Found};
 use model::{Marks, limit};
 use places::entries;
 
-pub const CODES: u64 = 5;
-
-pub const FILTERS: u64 = 9;
-
-pub const PAIRS: u64 = 13;
-
 // The largest provider, as a word.
 const PROVIDERS: u64 = limit::PROVIDERS as u64;
-
-fn place(list: u64, books: &[u8], i: usize) -> u64
-    requires { (length books.now ≡ book_bytes) × (i < places_of list) }
-    ensures { result ≡ place_in list books.now i }
-{
-    if list == CODES {
-        return octets::u32_at(books, books::CODES_AT + 4 * i);
-    }
-    if list == FILTERS {
-        return octets::u32_at(books, books::FILTERS_AT + 4 * i);
-    }
-    octets::u64_at(books, books::SPLITS_AT + 8 * i)
-}
-
-// The place before place i, or 0.
-fn last(list: u64, books: &[u8], i: usize) -> u64
-    requires { (length books.now ≡ book_bytes) × (i < places_of list) }
-    ensures { result ≡ last_at (place_in list books.now) i }
-{
-    if i == 0 {
-        return 0;
-    }
-    place(list, books, i - 1)
-}
 
 fn here(marks: Marks, p: u64) -> bool
     ensures { result ≡ here marks p }
@@ -53,20 +23,20 @@ fn here(marks: Marks, p: u64) -> bool
 }
 
 // Clauses 5 to 8, of a code's place i.
-fn code(marks: Marks, i: u64, last: u64, w: u64) -> Found
-    ensures { result ≡ first_broken (code_clauses marks i last w) (found_at 0 0) }
+fn code(marks: Marks, i: u64, last: u64, w: u64) -> Option<Found>
+    ensures { result ≡ first_broken (code_clauses marks i last w) None }
 {
-    let f = faults::unless(!((0 < i) & (w / 64 <= last / 64)), 8, i, faults::fine());
+    let f = faults::unless(!((0 < i) & (w / 64 <= last / 64)), 8, i, None);
     let f = faults::unless(here(marks, w % 64), 7, 0, f);
     let f = faults::unless(entries::is_code(w / 64), 6, 0, f);
     faults::unless(!((0 < i) & (last == 0)), 5, i, f)
 }
 
 // Clauses 9 to 12, of a filter's.
-fn filter(marks: Marks, i: u64, last: u64, w: u64) -> Found
-    ensures { result ≡ first_broken (filter_clauses marks i last w) (found_at 0 0) }
+fn filter(marks: Marks, i: u64, last: u64, w: u64) -> Option<Found>
+    ensures { result ≡ first_broken (filter_clauses marks i last w) None }
 {
-    let f = faults::unless(!((0 < i) & (w <= last)), 12, i, faults::fine());
+    let f = faults::unless(!((0 < i) & (w <= last)), 12, i, None);
     let f = faults::unless(entries::is_code(w % 1048576), 11, 0, f);
     let f = faults::unless(here(marks, w / 1048576), 10, 0, f);
     faults::unless(!((0 < i) & (last == 0)), 9, i, f)
@@ -88,66 +58,88 @@ fn met(books: &[u8], i: usize, w: u64) -> u64
     requires { (length books.now ≡ book_bytes) × (i ≤ split_places) }
     ensures { result ≡ met_by (split_place books.now) i w }
 {
-    let mut j = i;
-    while 0 < j {
-        let u = octets::u64_at(books, books::SPLITS_AT + 8 * (j - 1));
-        if meets(u, w) {
-            return j as u64;
-        }
-        j -= 1;
-    }
-    0
+    faults::nearest(
+        i,
+        |j| meets(octets::u64_at(books, books::SPLITS_AT + 8 * j), w),
+    )
 }
 
 // Clauses 13 to 16, of a pair's place i; `other` is the nearest pair before with a code of its.
-fn pair(other: u64, i: u64, last: u64, w: u64) -> Found
-    ensures { result ≡ first_broken (pair_clauses other i last w) (found_at 0 0) }
+fn pair(other: u64, i: u64, last: u64, w: u64) -> Option<Found>
+    ensures { result ≡ first_broken (pair_clauses other i last w) None }
 {
     let one = w / 4294967296;
     let two = w % 4294967296;
     let first = entries::is_code(one);
     let second = entries::is_code(two);
-    let f = faults::unless(other == 0, 16, other, faults::fine());
+    let f = faults::once(16, other, None);
     let f = faults::unless(one != two, 15, 0, f);
     let f = faults::unless(first & second, 14, 0, f);
     faults::unless(!((0 < i) & (last == 0)), 13, i, f)
 }
 
-// What place i of a list breaks; a free place nothing.
-fn found(list: u64, marks: Marks, books: &[u8], i: usize) -> Found
-    requires { (length books.now ≡ book_bytes) × (i < places_of list) }
-    ensures { result ≡ place_found list marks (place_in list books.now) i }
-{
-    let w = place(list, books, i);
-    if w == 0 {
-        return faults::fine();
-    }
-    let last = last(list, books, i);
-    if list == CODES {
-        return code(marks, i as u64, last, w);
-    }
-    if list == FILTERS {
-        return filter(marks, i as u64, last, w);
-    }
-    pair(met(books, i, w), i as u64, last, w)
+// The three lists of the books.
+#[derive(Clone, Copy)]
+pub enum Listing {
+    Codes,
+    Filters,
+    Pairs,
 }
 
-// The first place of a list that breaks a clause, of n places.
-pub fn fault(list: u64, n: usize, marks: Marks, books: &[u8]) -> Fault
-    requires { (length books.now ≡ book_bytes) × (n ≡ places_of list) }
-    ensures { result ≡ list_fault list marks books.now }
-{
-    let mut i: usize = 0;
-    while i < n {
-        let f = found(list, marks, books, i);
-        if f.clause != 0 {
-            return Fault {
-                clause: f.clause,
-                place: i as u64 + 1,
-                second: f.second,
-            };
+impl Listing {
+    fn places(self) -> usize
+        ensures { result ≡ places_of self }
+    {
+        match self {
+            Listing::Codes | Listing::Filters => books::ROW_PLACES,
+            Listing::Pairs => books::SPLIT_PLACES,
         }
-        i += 1;
     }
-    faults::whole(0)
+
+    fn place(self, books: &[u8], i: usize) -> u64
+        requires { (length books.now ≡ book_bytes) × (i < places_of self) }
+        ensures { result ≡ place_in self books.now i }
+    {
+        match self {
+            Listing::Codes => octets::u32_at(books, books::CODES_AT + 4 * i),
+            Listing::Filters => octets::u32_at(books, books::FILTERS_AT + 4 * i),
+            Listing::Pairs => octets::u64_at(books, books::SPLITS_AT + 8 * i),
+        }
+    }
+
+    // The place before place i, or 0.
+    fn last(self, books: &[u8], i: usize) -> u64
+        requires { (length books.now ≡ book_bytes) × (i < places_of self) }
+        ensures { result ≡ last_at (place_in self books.now) i }
+    {
+        if i == 0 {
+            return 0;
+        }
+        self.place(books, i - 1)
+    }
+
+    // What place i breaks; a free place nothing.
+    fn found(self, marks: Marks, books: &[u8], i: usize) -> Option<Found>
+        requires { (length books.now ≡ book_bytes) × (i < places_of self) }
+        ensures { result ≡ place_found self marks (place_in self books.now) i }
+    {
+        let w = self.place(books, i);
+        if w == 0 {
+            return None;
+        }
+        let last = self.last(books, i);
+        match self {
+            Listing::Codes => code(marks, i as u64, last, w),
+            Listing::Filters => filter(marks, i as u64, last, w),
+            Listing::Pairs => pair(met(books, i, w), i as u64, last, w),
+        }
+    }
+
+    // The first place that breaks a clause.
+    pub fn fault(self, marks: Marks, books: &[u8]) -> Option<Fault>
+        requires { length books.now ≡ book_bytes }
+        ensures { result ≡ list_fault self marks books.now }
+    {
+        faults::first(self.places(), |i| self.found(marks, books, i))
+    }
 }

@@ -34,13 +34,11 @@ pub fn owner(books: &[u8], code: u64) -> u8
     requires { length books.now ≡ book_bytes }
     ensures { (m : Marks) → result ≡ owner_of (decode_books m books.now) code }
 {
-    let mut i: usize = 0;
-    while i < ROW_PLACES {
+    for i in 0..ROW_PLACES {
         let w = octets::u32_at(books, CODES_AT + 4 * i);
         if (w == 0) | (w / 64 == code) {
             return (w % 64) as u8;
         }
-        i += 1;
     }
     0
 }
@@ -50,8 +48,7 @@ pub fn partner(books: &[u8], code: u64) -> u64
     requires { length books.now ≡ book_bytes }
     ensures { (m : Marks) → result ≡ partner_of (decode_books m books.now) code }
 {
-    let mut i: usize = 0;
-    while i < SPLIT_PLACES {
+    for i in 0..SPLIT_PLACES {
         let w = octets::u64_at(books, SPLITS_AT + 8 * i);
         if (w == 0) | (w / 4294967296 == code) {
             return w % 4294967296;
@@ -59,7 +56,6 @@ pub fn partner(books: &[u8], code: u64) -> u64
         if w % 4294967296 == code {
             return w / 4294967296;
         }
-        i += 1;
     }
     0
 }

@@ -1,2 +1,1 @@
-pub mod Checking
 pub mod Lending

@@ -9,15 +9,18 @@ use native.Mathlib.Omega.{arith}
 use borrow.Author.Tests.{ne_eqb, eqb-true, eqb-false}
 use lib.Dec.{eqb}
 use lib.ListN.{length, get_or, take, set, length-append, get_or-append}
-use lib.Seq.{take_all, take-suc-set, get_or_at}
+use lib.Seq.{take-suc-set, get_or_at}
 use Rattle.model.specs.Selection.{class_number}
 use Rattle.model.specs.declared.Class.{Class}
 use Rattle.model.specs.Numbers.{ten_digits, code_of}
 use Rattle.providers.specs.Providers.{listed, entry_of}
-use Rattle.providers.specs.declared.Listed.{Listed}
+use Rattle.model.specs.declared.Marks.{Marks}
+use Rattle.std.specs.Prelude.{Option, None, Some, is_some}
 use Rattle.books.specs.Packed.{decode_books, sound_bytes}
 use Rattle.selection.specs.Classes.{class_in, Classed}
 use Rattle.selection.specs.declared.Classes.{Classes}
+use Rattle.soundbooks.specs.Sound.{kept_by}
+use Rattle.soundbooks.proofs.Keeping.{kept_is, kept_marks}
 use Rattle.classes.specs.Classes.{numbers_of, answer_for, Classified}
 
 -- nothing is written yet
@@ -31,10 +34,6 @@ pub one_more : (f : ℕ → Class) (out : List ℕ) (i x : ℕ) → i < length o
 unfolding numbers_of
 one_more f out i x h e q =
     rw (add-one i) (take-suc-set out i x h ∙ ap₂ (λ (a : List ℕ) (b : ℕ). a ++ b ∷ []) e (rw (add-one i) at q))
-
--- all are written
-pub all_written : (f : ℕ → Class) (out : List ℕ) (i n : ℕ) → i ≡ n → length out ≡ n → take i out ≡ numbers_of f i → out ≡ numbers_of f n
-all_written f out i n q h e = sym (take_all i out (omega arith)) ∙ e ∙ ap (numbers_of f) q
 
 -- the same classes have the same numbers
 pub same_numbers : (f g : ℕ → Class) (n : ℕ) → ((p : ℕ) → 1 ≤ p → p ≤ n → f p ≡ g p) → numbers_of f n ≡ numbers_of g n
@@ -71,33 +70,36 @@ number_at f (suc n) i h = go (number_at f n i) (eqb i n) refl
 
 -- ---- what is answered
 
--- the list as it was read, and what was said of it and the books
-module _ (p b xs : List ℕ) (tn : ℕ) (l : Listed) (hl : l ≡ listed (map entry_of p))
-    (s : Bool) (hs : s ≡ (l.sound && sound_bytes l.marks b)) where
-  answer_is : (a : Bool) → s ≡ a → answer_for p b tn (length xs) ≡ cond a (cond (ten_digits tn && eqb (length xs) 63) 0 2) 1
+-- what is kept of the list that was read, beside the books
+module _ (p b xs : List ℕ) (tn : ℕ) (k : Option Marks) (hk : k ≡ kept_by (listed (map entry_of p)) b) where
+  answer_is : answer_for p b tn (length xs) ≡ cond (is_some k) (cond (ten_digits tn && eqb (length xs) 63) 0 2) 1
   unfolding answer_for
-  answer_is a e =
+  answer_is =
       ap (λ (x : Bool). cond x (cond (ten_digits tn && eqb (length xs) 63) 0 2) 1)
-      (ap (λ (x : Listed). x.sound && sound_bytes x.marks b) (sym hl) ∙ sym hs ∙ e)
+      (sym (kept_is (listed (map entry_of p)) b) ∙ ap is_some (sym hk))
 
   -- refused, with nothing written
   refuses : (n : ℕ) → answer_for p b tn (length xs) ≡ suc n → Classified p b tn xs xs (suc n)
   refuses n e = record { said = sym e; wrote = rw (e, ne_eqb (suc n) 0 (λ q. omega arith)) }
 
-  pub unsound : s ≡ false → Classified p b tn xs xs 1
-  unsound e = refuses 0 (answer_is false e)
+  pub unsound : k ≡ None → Classified p b tn xs xs 1
+  unsound e = refuses 0 (answer_is ∙ rw e)
 
   -- sound, and what was said of the number and the places
-  module _ (e : s ≡ true) (t : Bool) (ht : t ≡ (ten_digits tn && eqb (length xs) 63)) where
+  module _ (m : Marks) (e : k ≡ Some m) (t : Bool) (ht : t ≡ (ten_digits tn && eqb (length xs) 63)) where
     formed_is : (a : Bool) → t ≡ a → answer_for p b tn (length xs) ≡ cond a 0 2
-    formed_is a f = answer_is true e ∙ ap (λ (x : Bool). cond x 0 2) (sym ht ∙ f)
+    formed_is a f = answer_is ∙ rw e (ap (λ (x : Bool). cond x 0 2) (sym ht ∙ f))
 
     pub malformed : t ≡ false → Classified p b tn xs xs 2
     malformed f = refuses 1 (formed_is false f)
 
+    -- the marks that are kept are the list's
+    marks_are : (listed (map entry_of p) ≡ Some m) × (sound_bytes m b ≡ true)
+    marks_are = kept_marks (listed (map entry_of p)) b m (sym hk ∙ e)
+
     pub classified : t ≡ true → (code : ℕ) → code ≡ code_of (record { 0 = tn }) → (c : Classes)
-        → Classed (decode_books l.marks b) code c → (ys : List ℕ) → ys ≡ numbers_of (class_in c) 63 → Classified p b tn xs ys 0
+        → Classed (decode_books m b) code c → (ys : List ℕ) → ys ≡ numbers_of (class_in c) 63 → Classified p b tn xs ys 0
     classified f code hc c h ys hy = record {
       said = sym (formed_is true f);
-      wrote = rw (formed_is true f) (hy ∙ same_numbers (class_in c) _ 63 h.each ∙ rw (hc, hl));
+      wrote = rw (formed_is true f) (hy ∙ same_numbers (class_in c) _ 63 h.each ∙ rw (hc, marks_are.0));
     }

@@ -1,11 +1,11 @@
 -- The classes of all providers for a TN, as bytes: what is written, and what is answered.
 -- Assumes nothing.
-use Rattle.std.specs.Prelude.{ℕ, zero, suc, ◌≡◌, Bool, cond, ◌&&◌, List, [], ◌∷◌, ◌++◌, map, eqb, length}
+use Rattle.std.specs.Prelude.{ℕ, zero, suc, ◌≡◌, Bool, cond, ◌&&◌, List, [], ◌∷◌, ◌++◌, map, eqb, length, is_some}
 use Rattle.model.specs.Numbers.{ten_digits, code_of, last_provider}
 use Rattle.model.specs.Books.{Books}
 use Rattle.model.specs.Selection.{class_of, class_number}
 use Rattle.model.specs.declared.Class.{Class}
-use Rattle.providers.specs.Providers.{listed, entry_of}
+use Rattle.providers.specs.Providers.{listed, entry_of, marks_in}
 use Rattle.books.specs.Packed.{decode_books, sound_bytes}
 
 -- the numbers of the classes of providers 1 to n, in their order
@@ -15,11 +15,11 @@ numbers_of f (suc n) = numbers_of f n ++ class_number (f (suc n)) ∷ []
 
 -- the books that provider list and bytes are
 abbrev pub books_of : List ℕ → List ℕ → Books
-books_of p b = decode_books (listed (map entry_of p)).marks b
+books_of p b = decode_books (marks_in (listed (map entry_of p))) b
 
 -- and whether both are sound
 abbrev pub sound_lists : List ℕ → List ℕ → Bool
-sound_lists p b = (listed (map entry_of p)).sound && sound_bytes (listed (map entry_of p)).marks b
+sound_lists p b = is_some (listed (map entry_of p)) && sound_bytes (marks_in (listed (map entry_of p))) b
 
 -- the numbers of all providers' classes for a TN
 abbrev pub classes_for : List ℕ → List ℕ → ℕ → List ℕ

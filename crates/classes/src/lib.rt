@@ -4,12 +4,10 @@
 ghost use Rattle.std.specs.Prelude.{◌≡◌, ◌&&◌, eqb, length};
 ghost use Rattle.model.specs.Numbers.{ten_digits, last_provider};
 ghost use Rattle.model.specs.Selection.{class_number};
-ghost use Rattle.books.specs.Packed.{sound_bytes};
 ghost use Rattle.selection.specs.Classes.{class_in};
 ghost use Rattle.classes.specs.Classes.{numbers_of, Classified};
 
 use model::{Class, Tn, limit};
-use providers::Listed;
 use selection::Classes;
 
 // As many places as providers.
@@ -19,13 +17,7 @@ const PLACES: usize = limit::PROVIDERS as usize;
 fn number(c: Class) -> u8
     ensures { result ≡ class_number c }
 {
-    match c {
-        Class::Selected => 0,
-        Class::NotPresent => 1,
-        Class::NoLocal => 2,
-        Class::FilterOnly => 3,
-        Class::FiltersBoth => 4,
-    }
+    c as u8
 }
 
 // Provider p's number to place p - 1, for all of them.
@@ -33,20 +25,9 @@ fn store(c: Classes, out: &mut [u8])
     requires { length out.old ≡ last_provider }
     ensures { out.new ≡ numbers_of (class_in c) last_provider }
 {
-    let mut i: usize = 0;
-    while i < PLACES {
-        out[i] = number(selection::class_of(c, i as u8 + 1));
-        i += 1;
+    for (i, place) in out.iter_mut().enumerate() {
+        *place = number(selection::class_of(c, i as u8 + 1));
     }
-}
-
-// Whether provider list and books are sound.
-fn sound(l: Listed, books: &[u8]) -> bool
-    ensures { result ≡ (l.sound && sound_bytes l.marks books.now) }
-{
-    let listed = l.sound;
-    let kept = soundbooks::sound(l.marks, books);
-    listed & kept
 }
 
 // Whether it is a TN, with as many places as providers.
@@ -58,18 +39,18 @@ fn formed(tn: Tn, places: usize) -> bool
 
 // The classes for a TN to exactly 63 places, and 0; 1 where provider list or books are unsound, 2 where it is no TN or the places are not
 // 63, and nothing is written.
+// Kept: the numbers are those that lupinenblatt_selection answers to C.
 pub fn write(providers: &[u8], books: &[u8], tn: u64, out: &mut [u8]) -> u8
     ensures { Classified providers.now books.now tn out.old out.new result }
 {
-    let l = providers::marks_of_bytes(providers);
-    if !sound(l, books) {
+    let Some(marks) = soundbooks::kept(providers::marks_of_bytes(providers), books) else {
         return 1;
-    }
+    };
     let asked = Tn(tn);
     if !formed(asked, out.len()) {
         return 2;
     }
-    let c = selection::classify(l.marks, books, books::code_of(asked));
+    let c = selection::classify(marks, books, books::code_of(asked));
     store(c, out);
     0
 }

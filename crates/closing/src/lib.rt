@@ -39,6 +39,7 @@ fn close_by(none_failed: bool, none_confirmed: bool, act: bool, dis: bool) -> u8
     status::ACTIVE
 }
 
+#[tactic(auto, unfolding(model::specs::Closing::close_to))]
 fn close_to(c: Broadcast) -> u8
     ensures { result ≡ close_to c }
 {
@@ -61,21 +62,25 @@ fn kept_purpose(status: u8, purpose: u8) -> u8
     }
 }
 
+#[tactic(auto, unfolding(model::specs::Closing::closed))]
 pub fn closed(v: Version) -> Version
     ensures { result ≡ closed v }
 {
     let status = close_to(v.cast);
-    let mut c = v.cast;
-    c.purpose = kept_purpose(status, v.cast.purpose);
-    c.start = 0;
-    let mut w = v;
-    w.status = status;
-    w.live = (status == status::PARTIAL_FAILURE) | (status == status::ACTIVE);
-    w.cast = c;
-    w
+    Version {
+        status,
+        live: (status == status::PARTIAL_FAILURE) | (status == status::ACTIVE),
+        cast: Broadcast {
+            purpose: kept_purpose(status, v.cast.purpose),
+            start: 0,
+            ..v.cast
+        },
+        ..v
+    }
 }
 
 // The version as it stays open, or closes.
+#[tactic(auto, unfolding(model::specs::Closing::settled))]
 pub fn settled(v: Version) -> Version
     ensures { result ≡ settled v }
 {
@@ -93,15 +98,18 @@ pub fn takes_over(v: Version) -> bool
 }
 
 // The live version that a close makes old.
+#[tactic(auto, unfolding(model::specs::Closing::retired))]
 pub fn retired(stamp: u32, v: Version) -> Version
     ensures { result ≡ retired stamp v }
 {
-    let mut c = v.cast;
-    c.purpose = purpose::NONE;
-    let mut w = v;
-    w.status = status::OLD;
-    w.stamp = stamp;
-    w.live = false;
-    w.cast = c;
-    w
+    Version {
+        status: status::OLD,
+        stamp,
+        live: false,
+        cast: Broadcast {
+            purpose: purpose::NONE,
+            ..v.cast
+        },
+        ..v
+    }
 }

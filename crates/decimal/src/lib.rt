@@ -7,43 +7,39 @@ ghost use Rattle.decimal.specs.Decimal.{digit_of, longer_by, spelled};
 // The largest number to which a digit can be put.
 const MOST_TENTH: u64 = 1_844_674_407_370_955_160;
 
-// A digit's number; more than 9 for any other byte.
-pub fn digit(b: u8) -> u8
+// A digit's number; none for any other byte.
+pub fn digit(b: u8) -> Option<u8>
     ensures { result ≡ digit_of b }
 {
-    if b < b'0' {
-        return 255;
+    match b {
+        b'0'..=b'9' => Some(b - b'0'),
+        _ => None,
     }
-    b - b'0'
 }
 
-// A number with one more digit; 0 where the byte is none, or the number too large.
-#[tactic(auto, using(crate::proofs::Spelling::no_digit))]
-fn longer(n: u64, b: u8) -> u64
+// A number with one more digit; none where the byte is none, the number too large, or there is none but a 0.
+fn longer(n: u64, b: u8) -> Option<u64>
     ensures { result ≡ longer_by n b }
 {
-    let last = digit(b);
-    if last > 9 {
-        return 0;
-    }
+    let last = digit(b)?;
     if n >= MOST_TENTH {
-        return 0;
+        return None;
     }
-    n * 10 + last as u64
+    let more = n * 10 + u64::from(last);
+    if more > 0 { Some(more) } else { None }
 }
 
-// The number that a text spells, from 1; 0 where it spells none.
-pub fn number(text: &[u8]) -> u64
+// The number that a text spells, from 1; none where it spells none.
+#[tactic(auto, using(crate::proofs::Spelling::spells_next, crate::proofs::Spelling::spells_all))]
+pub fn number(text: &[u8]) -> Option<u64>
     ensures { result ≡ spelled text.now }
 {
-    let mut n: u64 = 0;
-    let mut i: usize = 0;
-    while i < text.len() {
-        n = longer(n, text[i]);
-        if n == 0 {
-            return 0;
-        }
-        i += 1;
+    if text.is_empty() {
+        return None;
     }
-    n
+    let mut n = 0;
+    for b in text {
+        n = longer(n, *b)?;
+    }
+    Some(n)
 }

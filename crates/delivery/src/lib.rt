@@ -13,10 +13,11 @@ use verdict::{Mail, Run, To};
 fn to_soa(m: Message, provider: u8) -> Message
     ensures { result ≡ to_soa m provider }
 {
-    let mut s = m;
-    s.local = false;
-    s.provider = provider;
-    s
+    Message {
+        local: false,
+        provider,
+        ..m
+    }
 }
 
 // To the SOAs of two providers, in this order; how many they are.
@@ -36,19 +37,17 @@ fn run(tray: &mut [u8], at: usize, r: Run) -> usize
     requires all { All Small (run_of r) }
     ensures { Told (run_of r) at tray.old tray.new result }
 {
-    let say = r.say;
-    let to = r.to;
-    match to {
+    match r.to {
         To::Soa(p) => {
-            tray::put_message(tray, at, to_soa(say, p));
+            tray::put_message(tray, at, to_soa(r.say, p));
             1
         }
-        To::Soas(p, q) => soas(tray, at, say, p, q),
+        To::Soas(p, q) => soas(tray, at, r.say, p, q),
         To::Local(p) => {
-            tray::put_message(tray, at, tray::to_local(say, p));
+            tray::put_message(tray, at, tray::to_local(r.say, p));
             1
         }
-        To::Locals(s) => tray::put_downloads(tray, at, say, s),
+        To::Locals(s) => tray::put_downloads(tray, at, r.say, s),
     }
 }
 

@@ -12,7 +12,6 @@ use Rattle.model.specs.Record.{well_formed}
 use Rattle.model.specs.Sound.{sound_table}
 use Rattle.model.specs.Given.{Result}
 use Rattle.model.specs.Step.{Setting, unsound, step_of, after, final, outcomes, messages}
-use Rattle.model.specs.Step as model
 use Rattle.model.specs.Exchange.{Exchangeable, MayAt, May, reorder, swap_at, mail_of, Same}
 use Rattle.model.proofs.Lists.{clash}
 use Rattle.model.proofs.SoundTables.{says_table, table_says}
@@ -21,13 +20,14 @@ use Rattle.model.proofs.Theorems.{stays_sound, refusal_changes_nothing, demand3}
 use Rattle.model.specs.declared.Version.{Version}
 use Rattle.model.specs.declared.Event.{Event}
 use Rattle.model.specs.declared.Message.{Message}
-use Rattle.model.specs.declared.Reading.{Reading}
-use Rattle.model.specs.declared.Reading.TheVariants.{Record, Malformed}
+use Rattle.model.specs.Record.{Reading}
+use Rattle.std.specs.Prelude.{Ok, Err}
 use Rattle.packing.specs.Layout.{read_event}
 use Rattle.packing.proofs.Inverse.{bytes_are, fields_are}
 use Rattle.record.proofs.Theorems.{read_is_formed}
-use Rattle.providers.specs.Providers.{listed, entry_of}
-use Rattle.providers.specs.declared.Listed.{Listed}
+use Rattle.providers.specs.Providers.{listed, entry_of, marks_in}
+use Rattle.model.specs.declared.Marks.{Marks}
+use Rattle.std.specs.Prelude.{Option, is_some}
 use Rattle.books.specs.Packed.{decode_books, sound_bytes}
 use Rattle.books.proofs.Given.{sound_books_lem}
 use Rattle.rows.specs.Table.{decode, encode}
@@ -45,12 +45,12 @@ use Rattle.engine.specs.Demands.{ByteDemand3}
 
 -- ---- records
 
-pub record_is : (xs : List ℕ) → is_record (read_event xs) ≡ true → read_event xs ≡ Record (fields_in xs)
+pub record_is : (xs : List ℕ) → is_record (read_event xs) ≡ true → read_event xs ≡ Ok (fields_in xs)
 record_is xs h = go (read_event xs) refl h
   where
-    go : (r : Reading) → read_event xs ≡ r → is_record (read_event xs) ≡ true → read_event xs ≡ Record (fields_in xs)
-    go (Record e) q k = q ∙ ap Record (sym (fields_are _ e (bytes_are xs e q).1).2)
-    go Malformed q k = clash (rw q at k)
+    go : (r : Reading) → read_event xs ≡ r → is_record (read_event xs) ≡ true → read_event xs ≡ Ok (fields_in xs)
+    go (Ok e) q k = q ∙ ap Ok (sym (fields_are _ e (bytes_are xs e q).1).2)
+    go (Err m) q k = clash (rw q at k)
 
 -- ---- exchanges of records are exchanges of their fields
 
@@ -93,13 +93,13 @@ module _ {A : Type 0} (P : A → Type 0) where
 -- ---- one step, and many
 
 module _ (p b : List ℕ) (most : ℕ) (y : List ℕ) (rows : ℕ) where
-  abbrev L : Listed
+  abbrev L : Option Marks
   L = listed (map entry_of p)
 
   abbrev S : Setting
-  S = record { books = decode_books L.marks b; most = most; rows = rows; places = places_in y }
+  S = record { books = decode_books (marks_in L) b; most = most; rows = rows; places = places_in y }
 
-  module _ (hl : L.sound ≡ true) (hb : sound_bytes L.marks b ≡ true) where
+  module _ (hl : is_some L ≡ true) (hb : sound_bytes (marks_in L) b ≡ true) where
     module _ (vs : List Version) (h : unsound S vs ≡ false) where
       lined : sound_table (line_by b) rows vs ≡ true
       lined = says_table (line_by b) rows vs (sane_of S vs h).table
@@ -191,7 +191,7 @@ pub byte_reordering : ByteDemand3
 byte_reordering p b most y ns es t used l may =
     let k = lent_says (listed (map entry_of p)) b t used l.table in
     let s = sound_says t used l.bytes k.scanned in
-    let marks = (listed (map entry_of p)).marks in
+    let marks = (marks_in (listed (map entry_of p))) in
     let S : Setting = record { books = decode_books marks b; most = most; rows = rows_in t; places = places_in y } in
     let h : unsound S (decode t) ≡ false = of_sane S (decode t) (record {
       table = table_says (line_by b) (rows_in t) (decode t) (table_lines (line_by b) (rows_in t) (decode t) s.sound k.lines);

@@ -5,6 +5,7 @@ use Prim.Native.Nat.{ℕ, ◌<◌, ◌≤◌}
 use native.Mathlib.Omega.{arith}
 use mathlib.Core.Bool.{Bool, true, false, cond}
 use mathlib.Core.Option.{some}
+use Rattle.std.specs.Prelude.{Option, Some, None}
 use mathlib.Core.List.{List, ◌∷◌}
 use lib.Dec.{eqb, ltb}
 use lib.ListN.{length}
@@ -39,8 +40,7 @@ use Rattle.lines.proofs.Meaning.{table_lines}
 use Rattle.table.specs.Survey.{Surveyed, rows_under, the_one, list_of}
 use Rattle.table.specs.Change.{Over, Applicable}
 use Rattle.table.specs.declared.survey.Facts.{Facts}
-use Rattle.table.specs.declared.survey.Seen.{Seen}
-use Rattle.table.specs.declared.survey.Seen.TheVariants as seen
+use Rattle.table.specs.declared.survey.Placed.{Placed}
 use Rattle.table.proofs.Asked.{besides_live, fresh_absent}
 use Rattle.table.proofs.Surveys.{former_of, asked_of}
 use Rattle.tray.specs.Tray.{Small, Fits, put_all, Told}
@@ -147,9 +147,9 @@ module _ (m : Marks) (b : List ℕ) (most : ℕ) (t : List ℕ) (n : ℕ) (e : E
   pub decide_asks : ((well_formed e ≡ true) × (k.most ≤ 7)) × (is_create e.kind ≡ false → Kept f.asked)
   decide_asks = ((rd.formed, rw kn.most few), λ c. go f.asked (asked_of _ _ _ _ f sv c).is)
     where
-      go : (s : Seen) → the_one s ≡ with_number e.version Rows-of → Kept s
-      go seen.Nobody q = tt
-      go (seen.One i v) q = all_first (numbered e.version) v grounded.rows (sym q)
+      go : (s : Option Placed) → the_one s ≡ with_number e.version Rows-of → Kept s
+      go None q = tt
+      go (Some p) q = all_first (numbered e.version) p.version grounded.rows (sym q)
 
   facing : Facing (decode_books m b) Rows-of (decode t) e k f
   facing = record {
@@ -222,12 +222,12 @@ unfolding selected_for
 selected_is m b tn s code q p = p ∙ ap (λ (x : ℕ). mask_of (selects (decode_books m b) x) 63) q
 
 -- the version that was seen is the one
-pub the_seen : (s : Seen) (i : ℕ) (w v : Version) → s ≡ seen.One i w → the_one s ≡ some v → code_of w.id.tn ≡ code_of v.id.tn
-the_seen s i w v q p =
-    let e : some w ≡ some v = sym (ap the_one q) ∙ p in
-    let z : w ≡ v = cc in
+pub the_seen : (s : Option Placed) (w : Placed) (v : Version) → s ≡ Some w → the_one s ≡ some v → code_of w.version.id.tn ≡ code_of v.id.tn
+the_seen s w v q p =
+    let e : some w.version ≡ some v = sym (ap the_one q) ∙ p in
+    let z : w.version ≡ v = cc in
     ap (λ (x : Version). code_of x.id.tn) z
 
 -- nobody was seen
-pub none_seen : (s : Seen) (v : Version) {X : Type 0} → s ≡ seen.Nobody → the_one s ≡ some v → X
+pub none_seen : (s : Option Placed) (v : Version) {X : Type 0} → s ≡ None → the_one s ≡ some v → X
 none_seen s v q p = absurd (nothing_some (sym (ap the_one q) ∙ p))

@@ -1,5 +1,6 @@
 -- What a step over bytes keeps: everything, where it refuses; a sound table, where it is done.
 -- Assumes nothing.
+use Rattle.providers.specs.Providers.{marks_in}
 use mathlib.Core.Path.{◌≡◌, refl, sym, ap, ◌∙◌, subst}
 use Prim.Native.Nat.{ℕ, ◌≤◌}
 use native.Mathlib.Omega.{arith}
@@ -17,16 +18,15 @@ use Rattle.model.proofs.Theorems.{done_sound, refusal_sends_nothing, at_most_63}
 use Rattle.model.specs.declared.Version.{Version}
 use Rattle.model.specs.declared.Outcome.{Outcome}
 use Rattle.model.specs.declared.Outcome.TheVariants as outcome
-use Rattle.model.specs.declared.Reading.{Reading}
-use Rattle.model.specs.declared.Reading.TheVariants.{Record, Malformed}
+use Rattle.model.specs.Record.{Reading, malformed}
+use Rattle.std.specs.Prelude.{Ok, Err}
 use Rattle.packing.specs.Layout.{read_event}
-use Rattle.providers.specs.declared.Listed.{Listed}
+use Rattle.model.specs.declared.Marks.{Marks}
 use Rattle.rows.specs.Table.{decode, encode}
 use Rattle.scan.specs.Sound.{rows_in, itself, SoundTable}
 use Rattle.lines.specs.Lines.{line_by, soundness_in}
 use Rattle.lines.proofs.Meaning.{lines_table, says_sound_in}
-use Rattle.scan.specs.declared.Soundness.{Soundness}
-use Rattle.scan.specs.declared.Soundness.TheVariants.{Unsound, Sound}
+use Rattle.std.specs.Prelude.{Option, None, Some}
 use Rattle.checks.specs.Checks.{soundness_lent}
 use Rattle.checks.proofs.Lending.{lent_says, says_lent}
 use Rattle.table.proofs.Steps.{says_again, rows_again, sound_again}
@@ -34,9 +34,9 @@ use Rattle.engine.specs.Event.{table_after}
 use Rattle.engine.specs.Step.{setting_of, is_table, formed, result_in}
 
 -- u is a table that is sound with provider list and books, and has as many rows as t
-pub record Again (l : Listed) (b t u : List ℕ) : Type 0 where
+pub record Again (l : Option Marks) (b t u : List ℕ) : Type 0 where
   pub table : SoundTable u (length (decode u))
-  pub scanned : soundness_lent l b u ≡ Sound (length (decode u))
+  pub scanned : soundness_lent l b u ≡ Some (length (decode u))
   pub rows : rows_in u ≡ rows_in t
 
 -- what holds of the result of a step on t
@@ -50,16 +50,16 @@ refuse_kept s t o h = record { silent = λ q. refl; few = omega arith; sound = �
 
 step_kept : (s : Setting) (x : Reading) (t : List Version) → Kept s t (model.step s x t)
 unfolding model.step
-step_kept s (Record e) t = record { silent = refusal_sends_nothing s e t; few = at_most_63 s e t; sound = done_sound s e t }
-step_kept s Malformed t = go (unsound s t) refl
+step_kept s (Ok e) t = record { silent = refusal_sends_nothing s e t; few = at_most_63 s e t; sound = done_sound s e t }
+step_kept s (Err m) t = go (unsound s t) refl
   where
-    go : (b : Bool) → unsound s t ≡ b → Kept s t (model.step s Malformed t)
+    go : (b : Bool) → unsound s t ≡ b → Kept s t (model.step s malformed t)
     go true q = rw q (refuse_kept s t outcome.Unsound refl)
     go false q = rw q (refuse_kept s t outcome.Malformed refl)
 
-module _ (l : Listed) (b : List ℕ) (most : ℕ) (e t y : List ℕ) where
+module _ (l : Option Marks) (b : List ℕ) (most : ℕ) (e t y : List ℕ) where
   abbrev S : Setting
-  S = setting_of l.marks b most t y
+  S = setting_of (marks_in l) b most t y
 
   abbrev X : Result
   X = result_in l b most e t y
@@ -94,18 +94,18 @@ module _ (l : Listed) (b : List ℕ) (most : ℕ) (e t y : List ℕ) where
   lent_in : is_done X.out ≡ true → (u : List ℕ) → soundness_lent l b u ≡ soundness_in b u
   lent_in h u = go (soundness_lent l b t) refl (done_formed h)
     where
-      go : (s : Soundness) → soundness_lent l b t ≡ s → is_table s ≡ true → soundness_lent l b u ≡ soundness_in b u
-      go Unsound q k = clash k
-      go (Sound n) q k = let p = lent_says l b t n q in says_lent l b u p.listed p.books
+      go : (s : Option ℕ) → soundness_lent l b t ≡ s → is_table s ≡ true → soundness_lent l b u ≡ soundness_in b u
+      go None q k = clash k
+      go (Some n) q k = let p = lent_says l b t n q in says_lent l b u p.listed p.books
 
-  pub done_scanned : is_done X.out ≡ true → soundness_lent l b (table_after X t) ≡ Sound used_after
+  pub done_scanned : is_done X.out ≡ true → soundness_lent l b (table_after X t) ≡ Some used_after
   done_scanned h =
       lent_in h (table_after X t)
       ∙ ap (λ (d : Bool). soundness_in b (cond d (encode (changes X.does (decode t)) (rows_in t)) t)) h
       ∙ says_sound_in b (changes X.does (decode t)) (rows_in t) (kept.sound h)
 
   -- On a sound table a step leaves a sound table of as many rows, whatever its outcome.
-  pub again : (n : ℕ) → SoundTable t n → soundness_lent l b t ≡ Sound n → Again l b t (table_after X t)
+  pub again : (n : ℕ) → SoundTable t n → soundness_lent l b t ≡ Some n → Again l b t (table_after X t)
   again n s q = go (is_done X.out) refl
     where
       go : (d : Bool) → is_done X.out ≡ d → Again l b t (table_after X t)
@@ -116,9 +116,9 @@ module _ (l : Listed) (b : List ℕ) (most : ℕ) (e t y : List ℕ) where
           rw h
           (record {
             table = subst (λ (m : ℕ). SoundTable (encode vs (rows_in t)) m) (sym c) (sound_again vs (rows_in t) k);
-            scanned = lent_in h (encode vs (rows_in t)) ∙ says_sound_in b vs (rows_in t) (kept.sound h) ∙ ap Sound (sym c);
+            scanned = lent_in h (encode vs (rows_in t)) ∙ says_sound_in b vs (rows_in t) (kept.sound h) ∙ ap Some (sym c);
             rows = rows_again vs (rows_in t) k;
           })
       go false h =
           rw h
-          (record { table = subst (λ (m : ℕ). SoundTable t m) (sym s.count) s; scanned = q ∙ ap Sound (sym s.count); rows = refl })
+          (record { table = subst (λ (m : ℕ). SoundTable t m) (sym s.count) s; scanned = q ∙ ap Some (sym s.count); rows = refl })

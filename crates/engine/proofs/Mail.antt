@@ -1,5 +1,6 @@
 -- What a step sends fits the places of a tray, so that it can be read back.
 -- Assumes nothing.
+use Rattle.providers.specs.Providers.{marks_in}
 use mathlib.Core.Path.{◌≡◌, refl, sym, subst}
 use Prim.Native.Nat.{ℕ}
 use mathlib.Core.Bool.{Bool, true, false}
@@ -9,11 +10,10 @@ use Rattle.model.specs.Given.{Result, refuse}
 use Rattle.model.proofs.Lists.{clash}
 use Rattle.octets.specs.Octets.{Bytes}
 use Rattle.packing.specs.Layout.{read_event}
-use Rattle.providers.specs.declared.Listed.{Listed}
+use Rattle.model.specs.declared.Marks.{Marks}
 use Rattle.checks.specs.Checks.{soundness_lent}
 use Rattle.checks.proofs.Lending.{lent_says, lent_table}
-use Rattle.scan.specs.declared.Soundness.{Soundness}
-use Rattle.scan.specs.declared.Soundness.TheVariants.{Unsound, Sound}
+use Rattle.std.specs.Prelude.{Option, None, Some}
 use Rattle.tray.specs.Tray.{Fits}
 use Rattle.engine.specs.Event.{given_to}
 use Rattle.engine.specs.Step.{result_in}
@@ -22,13 +22,13 @@ use Rattle.engine.proofs.Stepping.{fit_ready, fit-rule, fit_malformed}
 use Rattle.engine.proofs.Exactly.{lent_sound, unlent}
 use Rattle.model.specs.declared.Outcome.{Outcome}
 use Rattle.model.specs.declared.Outcome.TheVariants as outcome
-use Rattle.model.specs.declared.Reading.{Reading}
-use Rattle.model.specs.declared.Reading.TheVariants.{Record, Malformed}
+use Rattle.model.specs.Record.{Reading}
+use Rattle.std.specs.Prelude.{Ok, Err}
 use Rattle.engine.proofs.Posting.{rule_mail}
 
 -- ---- over bytes
 
-module _ (l : Listed) (b : List ℕ) (most : ℕ) (xs t y : List ℕ) (bytes : Bytes t) where
+module _ (l : Option Marks) (b : List ℕ) (most : ℕ) (xs t y : List ℕ) (bytes : Bytes t) where
   abbrev X : Result
   X = result_in l b most xs t y
 
@@ -39,16 +39,16 @@ module _ (l : Listed) (b : List ℕ) (most : ℕ) (xs t y : List ℕ) (bytes : B
       refused : (o : Outcome) → X ≡ refuse o → All Fits X.sent
       refused o q = subst (λ (x : Result). All Fits x.sent) (sym q) none
 
-      go : (d : Bool) → lent_sound l b most xs t y ≡ d → (x : Reading) → read_event xs ≡ x → (s : Soundness) → soundness_lent l b t ≡ s
+      go : (d : Bool) → lent_sound l b most xs t y ≡ d → (x : Reading) → read_event xs ≡ x → (s : Option ℕ) → soundness_lent l b t ≡ s
           → All Fits X.sent
       go false q x r s k = refused outcome.Unsound (unlent l b most xs t y bytes q)
-      go true q x r Unsound k = clash (rw k at q)
-      go true q Malformed r (Sound n) k =
+      go true q x r None k = clash (rw k at q)
+      go true q (Err m) r (Some n) k =
           refused outcome.Malformed (fit_malformed l b most xs t y n (lent_table l b t n bytes k) k (rw k at q) r)
-      go true q (Record e) r (Sound n) k =
+      go true q (Ok e) r (Some n) k =
           let st = lent_table l b t n bytes k in
           let ls = (lent_says l b t n k).lines in
           let p = fit_ready l b most xs t y n st k (rw k at q) e r in
           subst (λ (x : Result). All Fits x.sent) (sym (fit-rule l b most xs t y n st k (rw k at q) e r))
-          (rule_mail (given_to l.marks b most t e) (ground l.marks b most t n e p.1 st ls p.0.formed).rows p.0.formed
-          (rule_rows l.marks b most t n e p.1 st ls p.0.formed))
+          (rule_mail (given_to (marks_in l) b most t e) (ground (marks_in l) b most t n e p.1 st ls p.0.formed).rows p.0.formed
+          (rule_rows (marks_in l) b most t n e p.1 st ls p.0.formed))

@@ -9,7 +9,7 @@ use Rattle.model.specs.Given.{Result}
 use Rattle.model.specs.Outcomes.{is_done}
 use Rattle.providers.specs.Providers.{listed, entry_of}
 use Rattle.checks.specs.Checks.{soundness_lent}
-use Rattle.scan.specs.declared.Soundness.TheVariants.{Sound}
+use Rattle.std.specs.Prelude.{Some}
 use Rattle.tray.specs.Tray.{places_in, put_all, read_places}
 use Rattle.tray.proofs.Laws.{tray_reads}
 use Rattle.octets.specs.Octets.{Bytes}
@@ -45,7 +45,7 @@ module _ (p b : List ℕ) (most : ℕ) (e t y u z : List ℕ) (a : Answer) (d : 
 
   -- Every outcome 0 leaves a table that the soundness check accepts. [V12]
   pub done_accepted : a.outcome ≡ 0 → soundness_lent (listed (map entry_of p)) b u
-      ≡ Sound (used_after (listed (map entry_of p)) b most e t y)
+      ≡ Some (used_after (listed (map entry_of p)) b most e t y)
   done_accepted h =
       ap (soundness_lent (listed (map entry_of p)) b) d.table ∙ done_scanned (listed (map entry_of p)) b most e t y
       (ap is_done (zero_done (result_of p b most e t y).out (sym d.outcome ∙ h)))

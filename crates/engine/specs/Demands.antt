@@ -1,7 +1,7 @@
 -- Demand 3 over bytes: a list of event records on one table, with fixed provider list, books, R and tray. Each step is the one that the
 -- call promises. [H4]
 -- Assumes nothing.
-use Rattle.std.specs.Prelude.{◌≡◌, ℕ, ◌+◌, ◌≤◌, Bool, true, false, List, [], ◌∷◌, ◌++◌, map, length}
+use Rattle.std.specs.Prelude.{◌≡◌, ℕ, ◌+◌, ◌≤◌, Bool, true, false, List, [], ◌∷◌, ◌++◌, map, length, Ok, Err, Some}
 use Rattle.model.specs.Books.{most_retries}
 use Rattle.model.specs.Step.{PLACES}
 use Rattle.octets.specs.Octets.{Bytes, be}
@@ -14,18 +14,16 @@ use Rattle.providers.specs.Providers.{listed, entry_of}
 use Rattle.scan.specs.Sound.{rows_in}
 use Rattle.lines.specs.Lines.{line_by}
 use Rattle.checks.specs.Checks.{soundness_lent}
-use Rattle.scan.specs.declared.Soundness.TheVariants.{Sound}
 use Rattle.tray.specs.Tray.{places_in}
 use Rattle.engine.specs.Event.{table_after}
 use Rattle.engine.specs.Step.{result_of}
 use Rattle.model.specs.declared.Event.{Event}
 use Rattle.model.specs.declared.Message.{Message}
-use Rattle.model.specs.declared.Reading.{Reading}
-use Rattle.model.specs.declared.Reading.TheVariants.{Record, Malformed}
+use Rattle.model.specs.Record.{Reading}
 
 abbrev pub is_record : Reading → Bool
-is_record (Record e) = true
-is_record Malformed = false
+is_record (Ok e) = true
+is_record (Err m) = false
 
 -- the fields that stand in a record's bytes
 abbrev pub fields_in : List ℕ → Event
@@ -53,7 +51,7 @@ module _ (p b : List ℕ) (most : ℕ) (y : List ℕ) where
   -- records.
   pub record Lent (es : List (List ℕ)) (t : List ℕ) (used : ℕ) : Type 0 where
     pub bytes : Bytes t
-    pub table : soundness_lent (listed (map entry_of p)) b t ≡ Sound used
+    pub table : soundness_lent (listed (map entry_of p)) b t ≡ Some used
     pub free : used + length es ≤ rows_in t
     pub formed : All (λ (e : List ℕ). is_record (read_event e) ≡ true) es
     pub retries : most ≤ most_retries

@@ -1,6 +1,6 @@
 -- One event on a sound table: what it is given, and what it leaves.
 -- Assumes nothing.
-use Rattle.std.specs.Prelude.{◌≡◌, ℕ, ◌≤◌, Bool, true, cond, List, ltb, length}
+use Rattle.std.specs.Prelude.{◌≡◌, ℕ, ◌≤◌, Bool, true, cond, List, ltb, length, Option}
 use Rattle.std.proofs.Math.Option.{some}
 use Rattle.model.specs.Step.{PLACES}
 use Rattle.model.specs.Table.{changes, rows_of}
@@ -17,7 +17,7 @@ use Rattle.rows.specs.Table.{decode, encode}
 use Rattle.scan.specs.Sound.{rows_in}
 use Rattle.lines.specs.Lines.{line_by}
 use Rattle.table.specs.Survey.{the_one}
-use Rattle.table.specs.declared.survey.Seen.{Seen}
+use Rattle.table.specs.declared.survey.Placed.{Placed}
 use Rattle.tray.specs.Tray.{put_all}
 use Rattle.outcomes.specs.declared.Answer.{Answer}
 use Rattle.model.specs.declared.Event.{Event}
@@ -39,7 +39,7 @@ given_to m b most t e = record {
 }
 
 -- what the rules are told beside the versions, where `asked` is the one that the event names
-pub record KnownTo (m : Marks) (b : List ℕ) (R : ℕ) (row : Bool) (e : Event) (asked : Seen) (k : Known) : Type 0 where
+pub record KnownTo (m : Marks) (b : List ℕ) (R : ℕ) (row : Bool) (e : Event) (asked : Option Placed) (k : Known) : Type 0 where
   pub most : k.most ≡ R
   pub absent : k.absent ≡ absent_in m e
   pub owner : is_create e.kind ≡ true → k.owner ≡ owner_of (decode_books m b) (code_of e.tn)

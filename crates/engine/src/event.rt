@@ -19,7 +19,7 @@ ghost use Rattle.engine.specs.Event.{Ready, Did, line_rows, given_to, KnownTo};
 use model::{Event, Marks};
 use outcomes::Answer;
 use rules::Known;
-use table::survey::{Facts, Seen};
+use table::survey::{Facts, Placed};
 use words::ROW;
 
 // The owner of a create's code; no other kind asks.
@@ -28,29 +28,28 @@ fn owner(marks: Marks, books: &[u8], e: Event) -> u8
     ensures { is_create e.kind ≡ true → result ≡ owner_of (decode_books marks books.now) (code_of e.tn) }
 {
     if rules::is_create(e.kind) {
-        let tn = e.tn;
-        return books::owner(books, books::code_of(tn));
+        return books::owner(books, books::code_of(e.tn));
     }
     0
 }
 
 // Whom a broadcast of the version asks, by the TN of its row; no other kind does.
-fn selected(marks: Marks, books: &[u8], e: Event, asked: Seen) -> u64
+fn selected(marks: Marks, books: &[u8], e: Event, asked: Option<Placed>) -> u64
     requires { sound_bytes marks books.now ≡ true }
     ensures { is_broadcast e.kind ≡ true → (v : Version) → the_one asked ≡ some v
         → result ≡ selected_for (decode_books marks books.now) v.id.tn }
 {
     if opening::is_broadcast(e.kind) {
-        if let Seen::One(_, v) = asked {
-            let tn = v.id.tn;
-            return selection::classify(marks, books, books::code_of(tn)).selected;
+        if let Some(p) = asked {
+            let code = books::code_of(p.version.id.tn);
+            return selection::classify(marks, books, code).selected;
         }
     }
     0
 }
 
 // What books, R and table say beside the versions.
-fn known(marks: Marks, books: &[u8], most: u8, free: bool, e: Event, asked: Seen) -> Known
+fn known(marks: Marks, books: &[u8], most: u8, free: bool, e: Event, asked: Option<Placed>) -> Known
     requires { sound_bytes marks books.now ≡ true }
     ensures { KnownTo marks books.now most free e asked result }
 {
@@ -70,11 +69,15 @@ fn surveyed(books: &[u8], table: &[u8], n: usize, e: Event) -> Facts
     ensures { Surveyed (decode table.now) (line_rows books.now e (decode table.now)) e.version
         (is_create e.kind) result }
 {
-    let tn = e.tn;
-    let line = books::line_names(books, tn);
-    let low = line.low;
-    let high = line.high;
-    table::survey::line(table, n, low, high, e.version, rules::is_create(e.kind))
+    let line = books::line_names(books, e.tn);
+    table::survey::line(
+        table,
+        n,
+        line.low,
+        line.high,
+        e.version,
+        rules::is_create(e.kind),
+    )
 }
 
 // A well-formed event on a sound table.
@@ -94,13 +97,9 @@ pub fn on_event(
         table.new tray.new result }
 {
     let f = surveyed(books, table, n, e);
-    let asked = f.asked;
-    let k = known(marks, books, most, n < table.len() / ROW, e, asked);
+    let k = known(marks, books, most, n < table.len() / ROW, e, f.asked);
     let v = rules::decide(e, k, f);
-    let out = v.out;
-    let rows = v.rows;
-    let mail = v.mail;
-    table::change::apply(table, n, rows);
-    let count = delivery::deliver(tray, mail);
-    outcomes::answered(out, count)
+    table::change::apply(table, n, v.rows);
+    let count = delivery::deliver(tray, v.mail);
+    outcomes::answered(v.out, count)
 }

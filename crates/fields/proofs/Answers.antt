@@ -11,14 +11,16 @@ use lib.ListN.{length, drop, drop_of_length-le}
 use lib.Seq.{sets, sets-eq}
 use lib.Dec.{eqb}
 use Rattle.model.specs.declared.Event.{Event}
-use Rattle.model.specs.declared.Reading.{Reading}
-use Rattle.model.specs.declared.Reading.TheVariants.{Record, Malformed}
+use borrow.Author.Rules.{rules}
+use Rattle.std.specs.Prelude.{⊤, Result, Ok, Err, IsErr}
+use Rattle.model.specs.declared.Malformed.{Malformed}
+use Rattle.fields.specs.declared.Numbers.{Numbers}
 use Rattle.model.specs.Numbers.{ten_digits}
-use Rattle.model.specs.Record.{named, type_fits, kind_fits, fits_bits, well_formed}
-use Rattle.packing.specs.Layout.{eleven_of, event_of, Written}
+use Rattle.model.specs.Record.{Reading, named, type_fits, kind_fits, fits_bits, well_formed}
+use Rattle.packing.specs.Layout.{eleven_of, event_of, told, Written}
 use Rattle.packing.proofs.Inverse.{bits_at, said_done}
 use Rattle.record.proofs.Codec.{refused_fields}
-use Rattle.fields.specs.Calls.{FIELDS, handed_to, handed_number, Handed, Narrow}
+use Rattle.fields.specs.Calls.{event_in, FIELDS, handed_to, handed_number, Handed, Narrow}
 
 -- ---- reading
 
@@ -32,46 +34,50 @@ set_all vs xs h =
 
 pub handed_refused : (r : Reading) (xs : List ℕ) → (length xs ≡ FIELDS → ⊥) → Handed r xs xs 2
 unfolding handed_to handed_number
-handed_refused (Record e) xs n = record { after = simp (ne_eqb (length xs) FIELDS n); said = simp (ne_eqb (length xs) FIELDS n) }
-handed_refused Malformed xs n = record { after = refl; said = refl }
+handed_refused (Ok e) xs n = record { after = simp (ne_eqb (length xs) FIELDS n); said = simp (ne_eqb (length xs) FIELDS n) }
+handed_refused (Err m) xs n = record { after = refl; said = refl }
 
-pub handed_record : (r : Reading) (e : Event) (xs ys : List ℕ) → r ≡ Record e → length xs ≡ FIELDS → ys ≡ eleven_of e → Handed r xs ys 0
+pub handed_record : (r : Reading) (e : Event) (xs ys : List ℕ) → r ≡ Ok e → length xs ≡ FIELDS → ys ≡ eleven_of e → Handed r xs ys 0
 unfolding handed_to handed_number
 handed_record r e xs ys q h p =
     let eleven : eqb (length xs) FIELDS ≡ true = eq-eqb (length xs) FIELDS h in
     record { after = rw q (simp eleven p); said = rw q (simp eleven) }
 
-pub handed_malformed : (r : Reading) (xs : List ℕ) → r ≡ Malformed → Handed r xs xs 2
+told_err : (s : Result ⊤ Malformed) → IsErr s → told s ≡ 2
+told_err (Ok u) h = search (rules, h)
+told_err (Err m) h = refl
+
+-- an error in between is told on
+pub handed_err : (r : Reading) (m : Malformed) (xs : List ℕ) (s : Result ⊤ Malformed) → r ≡ Err m → IsErr s → Handed r xs xs (told s)
 unfolding handed_to handed_number
-handed_malformed r xs q = record { after = rw q; said = rw q }
+handed_err r m xs s q h = record { after = rw q; said = rw q (told_err s h) }
 
 -- what a reading of a record hands to eleven places
-pub handed_is : (r : Reading) (e : Event) (xs ys : List ℕ) (n : ℕ) → r ≡ Record e → length xs ≡ FIELDS → Handed r xs ys n
+pub handed_is : (r : Reading) (e : Event) (xs ys : List ℕ) (n : ℕ) → r ≡ Ok e → length xs ≡ FIELDS → Handed r xs ys n
     → (ys ≡ eleven_of e) × (n ≡ 0)
 unfolding handed_to handed_number
 handed_is r e xs ys n q l h =
     (h.after ∙ rw q (simp (eq-eqb (length xs) FIELDS l)), h.said ∙ rw q (simp (eq-eqb (length xs) FIELDS l)))
 
 -- a reading that says 0 was of a record, and handed it over
-pub handed_done : (r : Reading) (xs ys : List ℕ) → Handed r xs ys 0 → r ≡ Record (event_of ys)
+pub handed_done : (r : Reading) (xs ys : List ℕ) → Handed r xs ys 0 → r ≡ Ok (event_of ys)
 unfolding handed_to handed_number
-handed_done (Record e) xs ys h =
+handed_done (Ok e) xs ys h =
     let b : eqb (length xs) FIELDS ≡ true = said_done (eqb (length xs) FIELDS) h.said in
     let p : ys ≡ eleven_of e = h.after ∙ simp b in
-    ap (λ (l : List ℕ). Record (event_of l)) (sym p)
-handed_done Malformed xs ys h = absurd (omega (arith, h.said))
+    ap (λ (l : List ℕ). Ok (event_of l)) (sym p)
+handed_done (Err m) xs ys h = absurd (omega (arith, h.said))
 
 -- ---- writing
 
 -- fields that fit their bits fit their types
-pub narrow : (e : Event) (b : Bool) → b ≡ fits_bits e → b ≡ true
-    → Narrow e.kind e.sender e.other e.mark e.cause e.version e.time e.due e.within
-narrow e b q f =
-    let at = bits_at e (sym q ∙ f) in
-    let s : e.sender < 64 = at 1 in
-    let o : e.other < 64 = at 2 in
-    let m : e.mark < 4 = at 3 in
-    let w : e.within < 2 = at 10 in
+pub narrow : (n : Numbers) (b : Bool) → b ≡ fits_bits (event_in n) → b ≡ true → Narrow n
+narrow n b q f =
+    let at = bits_at (event_in n) (sym q ∙ f) in
+    let s : n.sender < 64 = at 1 in
+    let o : n.other < 64 = at 2 in
+    let m : n.mark < 4 = at 3 in
+    let w : n.within < 2 = at 10 in
     record {
       kind_fits = at 0;
       sender_fits = omega arith;

@@ -5,7 +5,7 @@ use mathlib.Core.List.{List}
 use Prim.Native.Nat.{ℕ, ◌<◌}
 use lib.ListN.{length, get_or}
 use Rattle.model.specs.declared.Event.{Event}
-use Rattle.model.specs.declared.Reading.{Reading}
+use Rattle.model.specs.Record.{Reading}
 use Rattle.packing.specs.Layout.{eleven_of, event_of, read_event, Written}
 use Rattle.record.proofs.Theorems.{write_then_read, read_then_write}
 use Rattle.fields.specs.Calls.{FIELDS, Handed}

@@ -3,13 +3,23 @@
 
 ghost use Rattle.std.specs.Prelude.{◌≡◌, length};
 ghost use Rattle.model.specs.Record.{fits_bits};
-ghost use Rattle.packing.specs.Layout.{eleven_of, read_event, Written};
-ghost use Rattle.fields.specs.Calls.{event, FIELDS, Handed, Narrow};
+ghost use Rattle.packing.specs.Layout.{eleven_of, read_event, told, Written};
+ghost use Rattle.fields.specs.Calls.{event, event_in, FIELDS, Handed, Narrow};
 
-use model::{Event, Lrn, Reading, Tn};
+use model::{Event, Lrn, Malformed, Tn};
 
 // The places for a record's fields.
 pub const FIELDS: usize = 11;
+
+// The number that C is told: 0 done, 2 malformed.
+fn number(said: Result<(), Malformed>) -> u8
+    ensures { result ≡ told said }
+{
+    match said {
+        Ok(()) => 0,
+        Err(Malformed) => 2,
+    }
+}
 
 // The eleven fields in the paper's order, to eleven places.
 fn store(e: Event, fields: &mut [u64])
@@ -29,82 +39,86 @@ fn store(e: Event, fields: &mut [u64])
     fields[10] = e.within as u64;
 }
 
+// Reads a record to exactly eleven places; an error writes nothing.
+fn hand(bytes: &[u8], fields: &mut [u64]) -> Result<(), Malformed>
+    ensures { Handed (read_event bytes.now) fields.old fields.new (told result) }
+{
+    if fields.len() != FIELDS {
+        return Err(Malformed);
+    }
+    let e = record::read(bytes)?;
+    store(e, fields);
+    Ok(())
+}
+
 // Reads a record: its eleven fields to exactly eleven places, and 0; 2 where it is malformed or the places are not eleven, and nothing is
 // written.
 pub fn read(bytes: &[u8], fields: &mut [u64]) -> u8
     ensures { Handed (read_event bytes.now) fields.old fields.new result }
 {
-    if fields.len() != FIELDS {
-        return 2;
+    number(hand(bytes, fields))
+}
+
+// An event's fields, whatever numbers they are.
+#[derive(Clone, Copy)]
+struct Numbers {
+    kind: u64,
+    sender: u64,
+    other: u64,
+    mark: u64,
+    cause: u64,
+    tn: u64,
+    lrn: u64,
+    version: u64,
+    time: u64,
+    due: u64,
+    within: u64,
+}
+
+impl Numbers {
+    fn fits_bits(self) -> bool
+        ensures { result ≡ fits_bits (event_in self) }
+    {
+        (self.kind < 0x100)
+            & (self.sender < 64)
+            & (self.other < 64)
+            & (self.mark < 4)
+            & (self.cause < 0x100)
+            & (self.tn < 0x4_0000_0000)
+            & (self.lrn < 0x4_0000_0000)
+            & (self.version < 0x1_0000)
+            & (self.time < 0x1_0000_0000)
+            & (self.due < 0x1_0000_0000)
+            & (self.within < 2)
     }
-    let got = record::read(bytes);
-    match got {
-        Reading::Record(e) => {
-            store(e, fields);
-            0
+
+    fn narrowed(self) -> Event
+        requires { Narrow self }
+        ensures { result ≡ event_in self }
+    {
+        Event {
+            kind: self.kind as u8,
+            sender: self.sender as u8,
+            other: self.other as u8,
+            mark: self.mark as u8,
+            cause: self.cause as u8,
+            tn: Tn(self.tn),
+            lrn: Lrn(self.lrn),
+            version: self.version as u16,
+            time: self.time as u32,
+            due: self.due as u32,
+            within: self.within as u8,
         }
-        Reading::Malformed => 2,
     }
-}
 
-fn fits_bits(
-    kind: u64,
-    sender: u64,
-    other: u64,
-    mark: u64,
-    cause: u64,
-    tn: u64,
-    lrn: u64,
-    version: u64,
-    time: u64,
-    due: u64,
-    within: u64,
-) -> bool
-    ensures { result ≡ fits_bits (event kind sender other mark cause tn lrn version time due within) }
-{
-    (kind < 0x100)
-        & (sender < 64)
-        & (other < 64)
-        & (mark < 4)
-        & (cause < 0x100)
-        & (tn < 0x4_0000_0000)
-        & (lrn < 0x4_0000_0000)
-        & (version < 0x1_0000)
-        & (time < 0x1_0000_0000)
-        & (due < 0x1_0000_0000)
-        & (within < 2)
-}
-
-fn narrowed(
-    kind: u64,
-    sender: u64,
-    other: u64,
-    mark: u64,
-    cause: u64,
-    tn: u64,
-    lrn: u64,
-    version: u64,
-    time: u64,
-    due: u64,
-    within: u64,
-) -> Event
-    requires { Narrow kind sender other mark cause version time due within }
-    ensures { result ≡ event kind sender other mark cause tn lrn version time due within }
-{
-    let t = Tn(tn);
-    let l = Lrn(lrn);
-    Event {
-        kind: kind as u8,
-        sender: sender as u8,
-        other: other as u8,
-        mark: mark as u8,
-        cause: cause as u8,
-        tn: t,
-        lrn: l,
-        version: version as u16,
-        time: time as u32,
-        due: due as u32,
-        within: within as u8,
+    // Writes their record to 24 bytes; an error writes nothing.
+    fn write(self, out: &mut [u8]) -> Result<(), Malformed>
+        ensures { Written (event_in self) out.old out.new (told result) }
+    {
+        if !self.fits_bits() {
+            return Err(Malformed);
+        }
+        record::write(self.narrowed(), out)
     }
 }
 
@@ -126,14 +140,18 @@ pub fn write(
 ) -> u8
     ensures { Written (event kind sender other mark cause tn lrn version time due within) out.old out.new result }
 {
-    if fits_bits(
-        kind, sender, other, mark, cause, tn, lrn, version, time, due, within,
-    ) {
-        let e = narrowed(
-            kind, sender, other, mark, cause, tn, lrn, version, time, due, within,
-        );
-        record::write(e, out)
-    } else {
-        2
-    }
+    let numbers = Numbers {
+        kind,
+        sender,
+        other,
+        mark,
+        cause,
+        tn,
+        lrn,
+        version,
+        time,
+        due,
+        within,
+    };
+    number(numbers.write(out))
 }

@@ -2,16 +2,12 @@
 #![tactic(auto)]
 
 mod entry;
-mod files;
-mod texts;
 mod version;
 
 ghost use Rattle.std.specs.Prelude.{◌≡◌, length};
 
-use faults::Fault;
 use model::limit;
-use scan::Soundness;
-use std::rt::{Env, Files};
+use program::{Program, Told};
 use words::ROW;
 
 // A table of 4,096 rows, a provider list and books, and a byte more each: what is longer is told as it is.
@@ -21,6 +17,8 @@ const PROVIDERS: usize = limit::PROVIDERS as usize + 1;
 
 const BOOKS: usize = books::BOOK_BYTES + 1;
 
+const LONGER: &str = "the file is longer than any that is sound";
+
 fn free_rows() -> [u8; TABLE]
     ensures { 327681 ≡ length result }
 {
@@ -28,14 +26,9 @@ fn free_rows() -> [u8; TABLE]
 }
 
 fn say_sound(out: &impl Print, table: &[u8]) {
-    let verdict = scan::verdict(table);
-    let rows = (table.len() / ROW) as u64;
-    match verdict {
-        Soundness::Sound { used } => {
-            texts::put_line(out, b"sound: # of # rows used", 0, used as u64, rows);
-            texts::put(out, b"\n");
-        }
-        Soundness::Unsound => {}
+    let rows = table.len() / ROW;
+    if let Some(used) = scan::verdict(table) {
+        let _ = println!(out; "sound: {used} of {rows} rows used");
     }
 }
 
@@ -55,30 +48,22 @@ fn inspect(out: &impl Print, table: &[u8], providers: &[u8], books: &[u8]) {
 }
 
 // Reads the three files, and goes on if all of them were read.
-fn run(rt: &(impl Env + Files + Print), errors: &impl Print) {
+fn run(out: &impl Print, program: Program<'_>) -> Result<(), Told> {
     let mut table = free_rows();
     let mut providers = [0u8; PROVIDERS];
     let mut books = [0u8; BOOKS];
-    let t = files::load(rt, errors, 1, &mut table);
-    let p = files::load(rt, errors, 2, &mut providers);
-    let b = files::load(rt, errors, 3, &mut books);
-    if t > TABLE {
-        return;
-    }
-    if p > PROVIDERS {
-        return;
-    }
-    if b > BOOKS {
-        return;
-    }
-    inspect(rt, &table[..t], &providers[..p], &books[..b]);
+    let table = program.load(1, &mut table, LONGER);
+    let providers = program.load(2, &mut providers, LONGER);
+    let books = program.load(3, &mut books, LONGER);
+    inspect(out, table?, providers?, books?);
+    Ok(())
 }
 
 fn main(rt: HostRuntime) {
-    let errors = rt.stderr();
-    if !files::is_given(&rt, 3) || files::is_given(&rt, 4) {
-        files::say(&errors, b"usage: inspect TABLE PROVIDERS BOOKS");
+    let program = Program::new(rt, "inspect", 0);
+    if !program.has_just(3) {
+        program.say("usage: inspect TABLE PROVIDERS BOOKS");
         return;
     }
-    run(&rt, &errors);
+    let _ = run(&rt, program);
 }

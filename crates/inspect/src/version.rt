@@ -1,106 +1,147 @@
-// A row at fault, in words: "row 17: TN 3035550100 version 2: live in status 7".
-use crate::texts;
+// A row at fault, in words: "row 17: TN 3035550100 version 2: live in status 7". docs/FAULTS.md has all clauses.
 use faults::Fault;
-use model::Version;
+use model::{Id, Version};
+use std::fmt;
+use std::fmt::{Display, Formatter};
 use words::ROW;
 
-// The number that a clause is about.
-fn about(clause: u64, v: Version) -> u64 {
-    match clause {
-        20 => v.canceller as u64,
-        23 => v.cast.start as u64,
-        25 => v.cast.purpose as u64,
-        _ => v.status as u64,
+// A version by its name.
+#[derive(Clone, Copy)]
+struct Named {
+    id: Id,
+}
+
+impl Display for Named {
+    fn fmt<W: fmt::Write>(&self, f: &mut Formatter<W>) -> fmt::Result {
+        write!(f, "TN {} version {}", self.id.tn.0, self.id.number)
     }
 }
 
-// The text of a clause that forbids a thing in one status or type and asks for it in another, or forbids two things.
-fn half(clause: u64, v: Version) -> u64 {
-    if clause == 26 && !v.live {
-        return texts::NOT_LIVE;
-    }
-    if clause == 24 && v.cast.waiting == 0 {
-        return texts::NOBODY_WAITS;
-    }
-    if clause == 14 && v.within {
-        return texts::TWO_PROVIDERS;
-    }
-    if clause == 37 && !v.old.created {
-        return texts::WINDOW_MARKED;
-    }
-    clause
+// What a clause says of a row.
+#[derive(Clone, Copy)]
+struct Words {
+    fault: Fault,
+    row: Version,
 }
 
-// The row's name.
-fn put_name(out: &impl Print, place: u64, v: Version) {
-    texts::put_line(out, b"row #: ", 0, place, 0);
-    texts::put_line(out, b"TN # version #: ", 0, v.id.tn.0, v.id.number as u64);
+impl Display for Words {
+    fn fmt<W: fmt::Write>(&self, f: &mut Formatter<W>) -> fmt::Result {
+        let second = self.fault.second;
+        let v = self.row;
+        let status = v.status;
+        match self.fault.clause {
+            3 => write!(f, "used, and row {second} before it is free"),
+            4 => write!(f, "a spare bit is set"),
+            5 => write!(f, "no TN"),
+            6 => write!(f, "version number 0"),
+            7 => write!(f, "status {status} is none"),
+            8 => write!(f, "stamp 0"),
+            9 => write!(f, "new provider 0"),
+            10 => write!(f, "old provider 0"),
+            11 => write!(f, "canceller 3 is neither side"),
+            12 => write!(f, "a set has bit 0, which is nobody's"),
+            13 => write!(
+                f,
+                "the highest bit of a word of retries is set, which is nobody's"
+            ),
+            14 if v.within => write!(
+                f,
+                "within one provider, but the new provider is {} and the old {}",
+                v.new.provider, v.old.provider
+            ),
+            14 => write!(f, "new and old provider are both {}", v.new.provider),
+            15 => write!(
+                f,
+                "the new side's due date and LRN do not go with its having created or not"
+            ),
+            16 => write!(
+                f,
+                "the old side's due date and authorization do not go with its having created or not"
+            ),
+            17 => write!(f, "neither side has created"),
+            18 => write!(f, "a side that status {status} needs has not created"),
+            19 => write!(
+                f,
+                "cause {} with authorization {}",
+                v.old.cause, v.old.authorization
+            ),
+            20 => write!(f, "canceller {} in status {status}", v.canceller),
+            21 => write!(
+                f,
+                "a system stands in two of the sets confirmed, waiting and failed"
+            ),
+            22 => write!(f, "retries are used by a system that is not waiting"),
+            23 => write!(f, "broadcast start {} in status {status}", v.cast.start),
+            24 if v.cast.waiting == 0 => write!(f, "nobody waits in status {status}"),
+            24 => write!(f, "systems wait in status {status}"),
+            25 => write!(f, "purpose {} in status {status}", v.cast.purpose),
+            26 if v.live => write!(f, "live in status {status}"),
+            26 => write!(f, "not live in status {status}"),
+            27 => write!(
+                f,
+                "live by activate with a waiting or failed system, and no confirmed one"
+            ),
+            28 => write!(f, "not above row {second}"),
+            29 => write!(f, "a second live version of its TN beside row {second}"),
+            30 => write!(f, "a second sending version of its TN beside row {second}"),
+            31 => write!(f, "a second worked version of its TN beside row {second}"),
+            33 => write!(f, "a second live version of its line beside row {second}"),
+            34 => write!(
+                f,
+                "a second sending version of its line beside row {second}"
+            ),
+            35 => write!(f, "a second worked version of its line beside row {second}"),
+            36 => write!(
+                f,
+                "the number stands twice in its line, beside row {second}"
+            ),
+            37 if v.old.created => write!(f, "within one provider, and the old side has created"),
+            37 => write!(f, "within one provider, and the window mark is set"),
+            _ => Ok(()),
+        }
+    }
 }
 
-// A clause of a row, with its values.
-fn say_row(out: &impl Print, f: Fault, v: Version) {
-    put_name(out, f.place, v);
-    let status = v.status as u64;
-    if f.second != 0 {
-        texts::of_table(out, f.clause, f.second, 0);
-        return;
-    }
-    let clause = f.clause;
-    match clause {
-        14 => texts::of_table(
-            out,
-            half(14, v),
-            v.new.provider as u64,
-            v.old.provider as u64,
-        ),
-        19 => texts::of_table(out, 19, v.old.cause as u64, v.old.authorization as u64),
-        24 | 26 | 37 => texts::of_table(out, half(clause, v), status, 0),
-        _ => texts::of_table(out, clause, about(clause, v), status),
-    }
+// A fault of the table's length.
+fn say_length(out: &impl Print, f: Fault, bytes: usize) {
+    let _ = match f.clause {
+        1 => println!(out; "table: {bytes} bytes are no whole rows of 80"),
+        _ => println!(out; "table: {bytes} bytes are more than 4,096 rows"),
+    };
 }
 
-// A clause of a row and an earlier one of its line, which has another TN: both are named.
-fn say_line(out: &impl Print, f: Fault, v: Version, other: Version) {
-    put_name(out, f.place, v);
-    texts::of_row(out, f.clause, f.second, 0);
-    texts::put_line(
-        out,
-        b", TN # version #",
-        0,
-        other.id.tn.0,
-        other.id.number as u64,
+// A row at fault, without the end of the line.
+fn put_row(out: &impl Print, f: Fault, row: Version) {
+    let _ = print!(out;
+        "row {}: {}: {}",
+        f.place,
+        Named { id: row.id },
+        Words { fault: f, row }
     );
-    texts::put(out, b"\n");
 }
-
-fn say_beside(out: &impl Print, f: Fault, v: Version, table: &[u8]) {
-    if f.second == 0 {
-        return;
-    }
-    let j = (f.second - 1) as usize;
-    if j < table.len() / ROW {
-        say_line(out, f, v, rows::load(table, j));
-    }
-}
-
-// The clauses of lines, from the first to the last.
-const LINE: u64 = 33;
-
-const LAST_LINE: u64 = 36;
 
 pub fn say(out: &impl Print, f: Fault, table: &[u8]) {
     if f.place == 0 {
-        texts::put(out, b"table: ");
-        texts::of_table(out, f.clause, table.len() as u64, 0);
+        say_length(out, f, table.len());
         return;
     }
+    let rows = table.len() / ROW;
     let i = (f.place - 1) as usize;
-    if i < table.len() / ROW {
-        let v = rows::load(table, i);
-        if LINE <= f.clause && f.clause <= LAST_LINE {
-            say_beside(out, f, v, table);
-            return;
-        }
-        say_row(out, f, v);
+    if i >= rows {
+        return;
     }
+    put_row(out, f, rows::load(table, i));
+    // Of a line: the other row has another TN.
+    if let 33..=36 = f.clause {
+        let j = f.second.wrapping_sub(1) as usize;
+        if j < rows {
+            let _ = print!(out;
+                ", {}",
+                Named {
+                    id: rows::load(table, j).id
+                }
+            );
+        }
+    }
+    let _ = out.print("\n");
 }

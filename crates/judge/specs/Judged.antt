@@ -1,6 +1,6 @@
 -- The orders of refusals as the code meets them: tests over what the survey of a number's rows says.
 -- Assumes nothing.
-use Rattle.std.specs.Prelude.{ℕ, Bool, true, false, cond, not, ◌&&◌, ◌||◌, List, [], ◌∷◌, eqb, ltb, leb}
+use Rattle.std.specs.Prelude.{ℕ, Bool, true, false, cond, not, ◌&&◌, ◌||◌, List, [], ◌∷◌, eqb, ltb, leb, Result, Ok, Err}
 use Rattle.model.specs.Numbers.{last_number}
 use Rattle.model.specs.Basics.{holds, is_none}
 use Rattle.model.specs.Kinds as kind
@@ -8,7 +8,7 @@ use Rattle.model.specs.Record.{is_broadcast}
 use Rattle.model.specs.Sound.{failure}
 use Rattle.model.specs.Standing.{lacks_standing, wrong_status}
 use Rattle.model.specs.Creates.{old_in, current_or, fits, agrees}
-use Rattle.model.specs.Outcomes.{number_of, judge, create_order, answer_order, other_order}
+use Rattle.model.specs.Outcomes.{is_done, number_of, judge, create_order, answer_order, other_order}
 use Rattle.model.specs.Answers.{awaited}
 use Rattle.model.specs.Refusals.{missing, absent, before_start, before_due, idle}
 use Rattle.model.specs.declared.Event.{Event}
@@ -35,6 +35,10 @@ test_of (o ∷ os) (b ∷ bs) x = cond (eqb (number_of o) (number_of x)) b (test
 -- the first outcome of an order whose test holds, or done
 abbrev pub first_of : List Outcome → List Bool → Outcome
 first_of os bs = judge (test_of os bs) os
+
+-- an event that is done goes on, and any other outcome refuses it
+abbrev pub go_on : Outcome → Result Unit Outcome
+go_on o = cond (is_done o) (Ok tt) (Err o)
 
 -- creates [O6, A4.2]
 abbrev pub create_tests : Event → Bool → ℕ → Facts → Bool → List Bool

@@ -1,18 +1,17 @@
 // What an event gets: the tests of its kind in document 01's order.
 #![tactic(auto)]
 
-ghost use Rattle.std.specs.Prelude.{◌≡◌, true, false, cond, not, ◌&&◌, ◌||◌, [], ◌∷◌, ◌≤◌, eqb, ltb, leb};
+ghost use Rattle.std.specs.Prelude.{◌≡◌, true, cond, not, ◌&&◌, ◌≤◌, Ok, Err};
 ghost use Rattle.model.specs.Sound.{last_status};
-ghost use Rattle.model.specs.Basics.{among, holds, is_none};
-ghost use Rattle.model.specs.Standing.{is_grid_kind, unready, lacks_standing, wrong_status};
+ghost use Rattle.model.specs.Basics.{holds};
+ghost use Rattle.model.specs.Standing.{is_grid_kind, unready};
 ghost use Rattle.model.specs.Creates.{current_or, fits, agrees};
-ghost use Rattle.model.specs.Answers.{awaited};
-ghost use Rattle.model.specs.Refusals.{before_start, before_due, idle};
+ghost use Rattle.model.specs.Refusals.{idle};
 ghost use Rattle.table.specs.Survey.{the_one};
-ghost use Rattle.judge.specs.Judged.{missing_in, absent_in, create_for, unknown_by, answer_for, busy_for, other_for};
+ghost use Rattle.judge.specs.Judged.{missing_in, absent_in, go_on, create_for, unknown_by, answer_for, busy_for, other_for};
 
 use model::{Event, Marks, Outcome, Version, kind, limit, status};
-use table::survey::{Facts, Seen};
+use table::survey::{Facts, Placed};
 
 // ---- sender and other
 
@@ -29,80 +28,53 @@ pub fn absent(m: Marks, e: Event) -> bool
     missing(m, e.sender) | missing(m, e.other)
 }
 
-// ---- an order: each refusal where its test holds, else what comes after it
+// ---- an order: the first refusal whose test holds ends it
 
-fn first(test: bool, refusal: Outcome, after: Outcome) -> Outcome
-    ensures { result ≡ cond test refusal after }
+fn refuse(test: bool, refusal: Outcome) -> Result<(), Outcome>
+    ensures { result ≡ cond test (Err refusal) (Ok tt) }
 {
-    if test { refusal } else { after }
+    if test { Err(refusal) } else { Ok(()) }
 }
 
 // ---- creates
 
 // The live version's new provider, else the code's owner.
-fn current(owner: u8, live: Seen) -> u8
+fn current(owner: u8, live: Option<Placed>) -> u8
     ensures { result ≡ current_or owner (the_one live) }
 {
-    match live {
-        Seen::One(_, v) => v.new.provider,
-        Seen::Nobody => owner,
-    }
+    live.map_or(owner, |p| p.version.new.provider)
 }
 
-fn unfit(e: Event, worked: Seen) -> bool
+fn unfit(e: Event, worked: Option<Placed>) -> bool
     ensures { result ≡ holds (the_one worked) (λ v. not (fits e v)) }
 {
-    match worked {
-        Seen::One(_, v) => !sides::fits(e, v),
-        Seen::Nobody => false,
-    }
+    worked.is_some_and(|p| !sides::fits(e, p.version))
 }
 
 // A concurring create with another due date than the first.
-fn another_due(e: Event, worked: Seen) -> bool
+fn another_due(e: Event, worked: Option<Placed>) -> bool
     ensures { result ≡ holds (the_one worked) (λ v. fits e v && not (agrees e v)) }
 {
-    match worked {
-        Seen::One(_, v) => {
-            let concurs = sides::fits(e, v);
-            let same = sides::agrees(e, v);
-            concurs & !same
-        }
-        Seen::Nobody => false,
-    }
+    worked.is_some_and(|p| sides::fits(e, p.version) & !sides::agrees(e, p.version))
 }
 
-fn nobody(s: Seen) -> bool
-    ensures { result ≡ is_none (the_one s) }
+#[tactic(auto, unfolding(crate::specs::Judged::create_for))]
+pub fn create(e: Event, absent: bool, owner: u8, f: Facts, free: bool) -> Result<(), Outcome>
+    ensures { result ≡ go_on (create_for e absent owner f free) }
 {
-    match s {
-        Seen::One(_, _) => false,
-        Seen::Nobody => true,
-    }
-}
-
-pub fn create(e: Event, absent: bool, owner: u8, f: Facts, free: bool) -> Outcome
-    ensures { result ≡ create_for e absent owner f free }
-{
-    let live = f.live;
-    let worked = f.worked;
-    let holder = current(owner, live);
-    let old = sides::old_in(e);
-    let misfit = unfit(e, worked);
-    let parted = another_due(e, worked);
-    let fresh = nobody(worked);
-    let early = e.time < f.stamp;
-    let exhausted = fresh & (limit::NUMBER <= f.newest);
-    let full = fresh & !free;
-    let o = first(full, Outcome::Full, Outcome::Done);
-    let o = first(exhausted, Outcome::Exhausted, o);
-    let o = first(parted, Outcome::AnotherDue, o);
-    let o = first(misfit, Outcome::Unfit, o);
-    let o = first(old != holder, Outcome::NotCurrent, o);
-    let o = first(early, Outcome::Early, o);
-    let o = first(f.sends, Outcome::Busy, o);
-    let o = first(owner == 0, Outcome::Unlisted, o);
-    first(absent, Outcome::Absent, o)
+    let fresh = f.worked.is_none();
+    refuse(absent, Outcome::Absent)?;
+    refuse(owner == 0, Outcome::Unlisted)?;
+    refuse(f.sends, Outcome::Busy)?;
+    refuse(e.time < f.stamp, Outcome::Early)?;
+    refuse(
+        sides::old_in(e) != current(owner, f.live),
+        Outcome::NotCurrent,
+    )?;
+    refuse(unfit(e, f.worked), Outcome::Unfit)?;
+    refuse(another_due(e, f.worked), Outcome::AnotherDue)?;
+    refuse(fresh & (limit::NUMBER <= f.newest), Outcome::Exhausted)?;
+    refuse(fresh & !free, Outcome::Full)
 }
 
 // ---- kinds 11 and 12
@@ -110,17 +82,19 @@ pub fn create(e: Event, absent: bool, owner: u8, f: Facts, free: bool) -> Outcom
 pub fn unknown(absent: bool) -> Outcome
     ensures { result ≡ unknown_by absent }
 {
-    first(absent, Outcome::Absent, Outcome::Unknown)
+    if absent {
+        Outcome::Absent
+    } else {
+        Outcome::Unknown
+    }
 }
 
-pub fn answer(e: Event, absent: bool, v: Version) -> Outcome
-    ensures { result ≡ answer_for e absent v }
+pub fn answer(e: Event, absent: bool, v: Version) -> Result<(), Outcome>
+    ensures { result ≡ go_on (answer_for e absent v) }
 {
-    let waits = answers::awaited(e, v);
-    let early = e.time < v.cast.start;
-    let o = first(early, Outcome::Early, Outcome::Done);
-    let o = first(!waits, Outcome::Unawaited, o);
-    first(absent, Outcome::Absent, o)
+    refuse(absent, Outcome::Absent)?;
+    refuse(!answers::awaited(e, v), Outcome::Unawaited)?;
+    refuse(e.time < v.cast.start, Outcome::Early)
 }
 
 // ---- all others
@@ -161,20 +135,17 @@ fn idle(e: Event, v: Version) -> bool
     (e.kind == kind::WINDOW_RAN_OUT) & spent
 }
 
-pub fn other(e: Event, absent: bool, f: Facts, v: Version) -> Outcome
+#[tactic(auto, unfolding(crate::specs::Judged::other_for))]
+pub fn other(e: Event, absent: bool, f: Facts, v: Version) -> Result<(), Outcome>
     requires { (v.status ≤ last_status) × (is_grid_kind e.kind ≡ true) }
-    ensures { result ≡ other_for e absent f v }
+    ensures { result ≡ go_on (other_for e absent f v) }
 {
-    let standing = sides::standing_of(e, v);
-    let entry = grid::grid(v.status, e.kind, standing);
-    let finer = unready(e, v);
-    let taken = busy(e, f, v);
-    let spent = idle(e, v);
+    let entry = grid::grid(v.status, e.kind, sides::standing_of(e, v));
     let early = (e.time < f.stamp) | ((e.kind == kind::ACTIVATE) & (e.time < v.new.due));
-    let o = first(spent, Outcome::Unawaited, Outcome::Done);
-    let o = first(early, Outcome::Early, o);
-    let o = first(taken, Outcome::Busy, o);
-    let o = first((entry == 7) | finer, Outcome::Misplaced, o);
-    let o = first(entry == 6, Outcome::Standless, o);
-    first(absent, Outcome::Absent, o)
+    refuse(absent, Outcome::Absent)?;
+    refuse(entry == 6, Outcome::Standless)?;
+    refuse((entry == 7) | unready(e, v), Outcome::Misplaced)?;
+    refuse(busy(e, f, v), Outcome::Busy)?;
+    refuse(early, Outcome::Early)?;
+    refuse(idle(e, v), Outcome::Unawaited)
 }

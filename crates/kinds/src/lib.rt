@@ -8,25 +8,19 @@ ghost use Rattle.model.specs.Record.{modifies_active, replies as replies_to, sil
 ghost use Rattle.model.specs.Record.{fits_bits};
 ghost use Rattle.model.specs.Record.{type_fits, sides_named, well_formed};
 
-use model::{Event, Lrn, Tn, kind, limit, mark};
+use model::{Event, Tn, kind, limit, mark};
 
-// Ten digits, the first and the fourth 2 to 9. [N1]
-fn ten_digits(x: u64) -> bool
+// Ten digits, the first and the fourth of them 2 to 9: the last seven say 2,000,000 or more. [N1]
+pub fn ten_digits(x: u64) -> bool
     ensures { result ≡ ten_digits x }
 {
-    (2_000_000_000 <= x) & (x < 10_000_000_000) & (2 <= x / 1_000_000 % 10)
+    (2_000_000_000 <= x) & (x < 10_000_000_000) & (2_000_000 <= x % 10_000_000)
 }
 
 pub fn is_tn(tn: Tn) -> bool
     ensures { result ≡ ten_digits tn.0 }
 {
     ten_digits(tn.0)
-}
-
-fn is_lrn(lrn: Lrn) -> bool
-    ensures { result ≡ ten_digits lrn.0 }
-{
-    ten_digits(lrn.0)
 }
 
 fn two_sides(a: u8, b: u8) -> bool
@@ -57,7 +51,7 @@ fn new_creates(e: Event) -> bool
     sides_named(e)
         & (e.mark == mark::NONE)
         & (e.cause == 0)
-        & is_lrn(e.lrn)
+        & ten_digits(e.lrn.0)
         & (e.version == 0)
         & (0 < e.due)
 }
@@ -78,7 +72,7 @@ fn new_modifies(e: Event) -> bool
     (e.other == 0)
         & (e.mark == mark::NONE)
         & (e.cause == 0)
-        & is_lrn(e.lrn)
+        & ten_digits(e.lrn.0)
         & (0 < e.version)
         & (0 < e.due)
 }
@@ -95,7 +89,7 @@ fn modifies_active(e: Event) -> bool
     (e.other == 0)
         & (e.mark == mark::NONE)
         & (e.cause == 0)
-        & is_lrn(e.lrn)
+        & ten_digits(e.lrn.0)
         & (0 < e.version)
         & (e.due == 0)
 }

@@ -19,6 +19,6 @@ pub fn step_of_list(
     ensures { Stepped (listed list.now) books.now most event.now
         table.old tray.old table.new tray.new result }
 {
-    let l = providers::marks_of_list(list);
-    engine::step::step_listed(table, l, books, most, event, tray)
+    let listed = providers::marks_of_list(list);
+    engine::step::step_listed(table, listed, books, most, event, tray)
 }

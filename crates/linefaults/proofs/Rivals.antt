@@ -1,6 +1,6 @@
--- The search for a row that collides with another of its line: what row j - 1 leaves to those before it, the names of the line instead of
--- the line, and the rows that have no rival. Assumes nothing.
-use Prim.Native.Nat.{ℕ, ◌+◌, ◌-◌, ◌<◌}
+-- The search for a row that collides with another of its line: the names of the line instead of the line, and the rows that have no
+-- rival. Assumes nothing.
+use Prim.Native.Nat.{ℕ, ◌<◌}
 use mathlib.Core.Path.{◌≡◌, refl, sym, ap, ◌∙◌}
 use mathlib.Core.Bool.{Bool, true, false, cond, ◌&&◌, ◌||◌, false≢true}
 use mathlib.Core.List.{List, []}
@@ -9,8 +9,9 @@ use borrow.Author.Tests.{eqb-true, ne_eqb}
 use lib.Dec.{eqb}
 use lib.ListN.{length}
 use Rattle.faults.specs.declared.Found.{Found}
-use Rattle.faults.specs.Faults.{found_at, first_broken, nearest}
-use Rattle.faults.proofs.Laws.{nearest-here, nearest-next, nearest-same, nearest_none}
+use Rattle.std.specs.Prelude.{Option, None}
+use Rattle.faults.specs.Faults.{first_broken}
+use Rattle.faults.proofs.Laws.{nearest-same, nearest_none}
 use Rattle.model.specs.declared.Version.{Version}
 use Rattle.model.specs.Books.{Split, line_in}
 use Rattle.model.specs.Sound.{live, sends, worked}
@@ -25,35 +26,6 @@ use Rattle.books.specs.Line.{Named}
 use Rattle.lines.proofs.Twos.{Clear}
 use Rattle.lines.proofs.Together.{itself_clear}
 use Rattle.linefaults.specs.Clauses.{collide, rival, rival_under, under_clauses, row_found}
-
--- ---- the search
-
-module _ (n low high : ℕ) (vs : List Version) (v : Version) where
-  abbrev tn_at : ℕ → ℕ
-  tn_at j = (version_at vs j).id.tn.0
-
-  abbrev meets : ℕ → Bool
-  meets j = (eqb (tn_at j) low || eqb (tn_at j) high) && collide n (version_at vs j) v
-
-  pub rival_end : (j : ℕ) → j ≡ 0 → 0 ≡ rival_under n low high vs v j
-  unfolding nearest
-  rival_end j z = rw z
-
-  module _ (j : ℕ) (h : 0 < j) (u : Version) (e : u ≡ version_at vs (j - 1)) (b : Bool) (eb : b ≡ collide n u v) where
-    told : meets (j - 1) ≡ ((eqb u.id.tn.0 low || eqb u.id.tn.0 high) && b)
-    told =
-        ap (λ (w : Version). (eqb w.id.tn.0 low || eqb w.id.tn.0 high) && collide n w v) (sym e)
-        ∙ ap (λ (x : Bool). (eqb u.id.tn.0 low || eqb u.id.tn.0 high) && x) (sym eb)
-
-    back : j - 1 + 1 ≡ j
-    back = omega arith
-
-    pub rival-here : ((eqb u.id.tn.0 low || eqb u.id.tn.0 high) && b) ≡ true → j ≡ rival_under n low high vs v j
-    rival-here y = sym (rw back at (nearest-here meets (j - 1) (told ∙ y)))
-
-    pub rival-next : ((eqb u.id.tn.0 low || eqb u.id.tn.0 high) && b) ≡ false
-        → rival_under n low high vs v j ≡ rival_under n low high vs v (j - 1)
-    rival-next y = rw back at (nearest-next meets (j - 1) (told ∙ y))
 
 -- ---- versions that may stand in one line do not collide
 
@@ -84,7 +56,7 @@ module _ (xs : List Split) (vs : List Version) (i : ℕ) (v : Version) (ev : v �
       ∙ ap (λ (w : Version). eqb (line_in xs (tn j)) (line_in xs w.id.tn.0) && collide n (version_at vs j) w) ev)
 
   -- what is found under the names is what is found in the line
-  pub found-under : (f : Found) → f ≡ first_broken (under_clauses r.low.0 r.high.0 vs v i) (found_at 0 0)
+  pub found-under : (f : Option Found) → f ≡ first_broken (under_clauses r.low.0 r.high.0 vs v i) None
       → f ≡ row_found (line_in xs) vs i
   unfolding row_found
   found-under f e = e ∙ rw (under-line 33, under-line 34, under-line 35, under-line 36)
@@ -118,6 +90,6 @@ module _ (xs : List Split) (vs : List Version) (i : ℕ) (v : Version) (ev : v �
     alone : (n : ℕ) → rival n (line_in xs) vs i ≡ 0
     alone n = sym (under-line n) ∙ nearest_none _ i (unmet n)
 
-    pub found-alone : found_at 0 0 ≡ row_found (line_in xs) vs i
+    pub found-alone : None ≡ row_found (line_in xs) vs i
     unfolding row_found
     found-alone = rw (alone 33, alone 34, alone 35, alone 36)

@@ -9,7 +9,10 @@ use borrow.Author.Tests.{eq-eqb, eqb-true, eqb-false}
 use lib.Dec.{eqb}
 use lib.ListN.{length, get_or}
 use Rattle.faults.specs.declared.Found.{Found}
-use Rattle.faults.specs.Faults.{Clause, beside, found_at, nearest, first_fault, is_faultless}
+use Rattle.std.specs.Prelude.{Option, None}
+use Rattle.std.specs.Option.{is_none}
+use Rattle.faults.specs.Faults.{Clause, beside, nearest, first_fault}
+use Rattle.faults.proofs.Laws.{numbered_found, numbered_fault, broken_numbered, first_numbered}
 use Rattle.faults.proofs.Laws.{nearest_none, all_hold, none_broken, faultless-next, faulty_here}
 use Rattle.model.specs.declared.Version.{Version}
 use Rattle.model.specs.Sound.{live, sends, worked, sound_lines}
@@ -36,22 +39,22 @@ nearest_zero p (suc i) e j h = go (p i) (eqb j i) refl refl e (nearest_zero p i)
 
 -- ---- nothing is found at any place, where nothing is at fault
 
-module _ (found : ℕ → Found) where
+module _ (found : ℕ → Option Found) where
   abbrev fine : ℕ → Bool
-  fine k = eqb (found k).clause 0
+  fine k = is_none (found k)
 
-  fine-all : (m i : ℕ) → ((k : ℕ) → i ≤ k → k < i + m → fine k ≡ true) → is_faultless (first_fault found m i) ≡ true
+  fine-all : (m i : ℕ) → ((k : ℕ) → i ≤ k → k < i + m → fine k ≡ true) → is_none (first_fault found m i) ≡ true
   unfolding first_fault
   fine-all zero i f = refl
   fine-all (suc m) i f = faultless-next found m i (f i (omega arith) (omega arith))
       ∙ fine-all m (suc i) (λ k a b. f k (omega arith) (omega arith))
 
-  all-fine : (m i : ℕ) → is_faultless (first_fault found m i) ≡ true → (k : ℕ) → i ≤ k → k < i + m → fine k ≡ true
+  all-fine : (m i : ℕ) → is_none (first_fault found m i) ≡ true → (k : ℕ) → i ≤ k → k < i + m → fine k ≡ true
   all-fine zero i e k a b = absurd (omega arith)
   all-fine (suc m) i e k a b = go (fine i) (eqb k i) refl refl (all-fine m (suc i))
     where
       go : (x s : Bool) → fine i ≡ x → eqb k i ≡ s
-          → (is_faultless (first_fault found m (suc i)) ≡ true → (j : ℕ) → suc i ≤ j → j < suc i + m → fine j ≡ true) → fine k ≡ true
+          → (is_none (first_fault found m (suc i)) ≡ true → (j : ℕ) → suc i ≤ j → j < suc i + m → fine j ≡ true) → fine k ≡ true
       go true true q o ih = ap fine (eqb-true _ _ o) ∙ q
       go true false q o ih =
           let n : k ≡ i → ⊥ = eqb-false _ _ o in
@@ -74,13 +77,13 @@ module _ (line : ℕ → ℕ) (vs : List Version) where
   abbrev meets : ℕ → ℕ → ℕ → Bool
   meets n i j = eqb (line_at line vs j) (line_at line vs i) && collide n (version_at vs j) (version_at vs i)
 
-  fine-holds : (i : ℕ) → eqb (row_found line vs i).clause 0 ≡ all_hold (line_clauses line vs i)
+  fine-holds : (i : ℕ) → is_none (row_found line vs i) ≡ all_hold (line_clauses line vs i)
   unfolding row_found
-  fine-holds i = none_broken (line_clauses line vs i) (found_at 0 0) refl ∙ and-true (all_hold (line_clauses line vs i))
+  fine-holds i = none_broken (line_clauses line vs i) None ∙ and-true (all_hold (line_clauses line vs i))
 
   -- it may stand with each before it of its line: so it has no rival
   clear_fine : (i : ℕ) → ((j : ℕ) → j < i → line_at line vs j ≡ line_at line vs i → Clear (version_at vs j) (version_at vs i))
-      → eqb (row_found line vs i).clause 0 ≡ true
+      → is_none (row_found line vs i) ≡ true
   clear_fine i f = fine-holds i ∙ rw (none 33, none 34, none 35, none 36)
     where
       none : (n : ℕ) → rival n line vs i ≡ 0
@@ -92,7 +95,7 @@ module _ (line : ℕ → ℕ) (vs : List Version) where
           go j k false e = refl
 
   -- and the other way round
-  fine_clear : (i : ℕ) → eqb (row_found line vs i).clause 0 ≡ true → (j : ℕ) → j < i → line_at line vs j ≡ line_at line vs i
+  fine_clear : (i : ℕ) → is_none (row_found line vs i) ≡ true → (j : ℕ) → j < i → line_at line vs j ≡ line_at line vs i
       → Clear (version_at vs j) (version_at vs i)
   fine_clear i e j k l = record {
     number = λ q. clash (sym (apart 36 (at 3)) ∙ eq-eqb _ _ q);
@@ -111,19 +114,29 @@ module _ (line : ℕ → ℕ) (vs : List Version) where
   -- ---- the whole answer
 
   -- NOTHING IS AT FAULT exactly where the lines are sound
-  pub lines_verdict : is_faultless (line_fault line vs) ≡ sound_lines line vs
+  pub lines_verdict : is_none (line_fault line vs) ≡ sound_lines line vs
   unfolding line_fault
-  lines_verdict = same (is_faultless (first_fault (row_found line vs) (length vs) 0)) (sound_lines line vs)
+  lines_verdict = same (is_none (first_fault (row_found line vs) (length vs) 0)) (sound_lines line vs)
       (λ e. clear_lines line vs (clear e))
       (λ e. faultless (lines_clear line vs e))
     where
-      clear : is_faultless (first_fault (row_found line vs) (length vs) 0) ≡ true → AllClear line vs
+      clear : is_none (first_fault (row_found line vs) (length vs) 0) ≡ true → AllClear line vs
       clear e j i k h l = fine_clear i (all-fine (row_found line vs) (length vs) 0 e i (omega arith) (omega arith)) j k l
 
-      faultless : AllClear line vs → is_faultless (first_fault (row_found line vs) (length vs) 0) ≡ true
+      faultless : AllClear line vs → is_none (first_fault (row_found line vs) (length vs) 0) ≡ true
       faultless f = fine-all (row_found line vs) (length vs) 0 (λ i a b. clear_fine i (λ j k l. f j i k (omega arith) l))
 
       same : (a b : Bool) → (a ≡ true → b ≡ true) → (b ≡ true → a ≡ true) → a ≡ b
       same true b f g = sym (f refl)
       same false true f g = g refl
       same false false f g = refl
+
+  -- ---- what is at fault has a clause's number
+
+  row_numbered : (i : ℕ) → numbered_found (row_found line vs i) ≡ true
+  unfolding row_found
+  row_numbered i = broken_numbered (line_clauses line vs i) None refl refl
+
+  pub line_numbered : numbered_fault (line_fault line vs) ≡ true
+  unfolding line_fault
+  line_numbered = first_numbered (row_found line vs) row_numbered (length vs) 0

@@ -1,10 +1,11 @@
 -- Where the lines of a sound table are unsound: the clauses on the rows of one line under the numbers of docs/FAULTS.md, asked of one row
 -- after the other. [A3.5]
 -- Assumes nothing.
+use Rattle.std.specs.Prelude.{Option, None}
 use Rattle.std.specs.Prelude.{ℕ, Bool, cond, ◌&&◌, ◌||◌, List, [], ◌∷◌, eqb, length}
 use Rattle.faults.specs.declared.Found.{Found}
 use Rattle.faults.specs.declared.Fault.{Fault}
-use Rattle.faults.specs.Faults.{Clause, beside, found_at, first_broken, nearest, first_fault}
+use Rattle.faults.specs.Faults.{Clause, once, first_broken, nearest, first_fault}
 use Rattle.model.specs.declared.Version.{Version}
 use Rattle.model.specs.Sound.{live, sends, worked}
 use Rattle.table.specs.Survey.{version_at}
@@ -25,9 +26,6 @@ line_at line vs j = line (version_at vs j).id.tn.0
 abbrev pub rival : ℕ → (ℕ → ℕ) → List Version → ℕ → ℕ
 rival n line vs i = nearest (λ (j : ℕ). eqb (line_at line vs j) (line_at line vs i) && collide n (version_at vs j) (version_at vs i)) i
 
-abbrev pub once : ℕ → ℕ → Clause
-once n other = beside n (eqb other 0) other
-
 -- per line at most one live, one sending, one worked version, and no version number twice
 abbrev pub line_clauses : (ℕ → ℕ) → List Version → ℕ → List Clause
 line_clauses line vs i = once 33 (rival 33 line vs i) ∷ once 34 (rival 34 line vs i) ∷ once 35 (rival 35 line vs i)
@@ -35,10 +33,13 @@ line_clauses line vs i = once 33 (rival 33 line vs i) ∷ once 34 (rival 34 line
 
 -- ---- the same under the two names of the row's line
 
+abbrev pub under : ℕ → ℕ → ℕ → Bool
+under tn low high = eqb tn low || eqb tn high
+
 -- the nearest row before row i that is under one of two TNs and collides with v, told from 1
 abbrev pub rival_under : ℕ → ℕ → ℕ → List Version → Version → ℕ → ℕ
 rival_under n low high vs v i =
-    nearest (λ (j : ℕ). (eqb (version_at vs j).id.tn.0 low || eqb (version_at vs j).id.tn.0 high) && collide n (version_at vs j) v) i
+    nearest (λ (j : ℕ). under (version_at vs j).id.tn.0 low high && collide n (version_at vs j) v) i
 
 abbrev pub under_clauses : ℕ → ℕ → List Version → Version → ℕ → List Clause
 under_clauses low high vs v i =
@@ -51,9 +52,9 @@ under_clauses low high vs v i =
 -- ---- a table
 
 -- what row i breaks with the rows before it of its line
-unfoldable pub row_found : (ℕ → ℕ) → List Version → ℕ → Found
-row_found line vs i = first_broken (line_clauses line vs i) (found_at 0 0)
+unfoldable pub row_found : (ℕ → ℕ) → List Version → ℕ → Option Found
+row_found line vs i = first_broken (line_clauses line vs i) None
 
 -- the first row that breaks a clause
-unfoldable pub line_fault : (ℕ → ℕ) → List Version → Fault
+unfoldable pub line_fault : (ℕ → ℕ) → List Version → Option Fault
 line_fault line vs = first_fault (row_found line vs) (length vs) 0

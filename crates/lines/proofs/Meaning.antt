@@ -15,34 +15,33 @@ use Rattle.model.proofs.SoundTables.{table_says, says_table, sound_narrow}
 use Rattle.model.specs.declared.Version.{Version}
 use Rattle.rows.specs.Table.{decode, encode}
 use Rattle.scan.specs.Sound.{itself, soundness_of}
-use Rattle.scan.specs.declared.Soundness.{Soundness}
-use Rattle.scan.specs.declared.Soundness.TheVariants.{Unsound, Sound}
+use Rattle.std.specs.Prelude.{Option, None, Some}
 use Rattle.scan.proofs.Meant.{says_sound}
 use Rattle.table.proofs.Steps.{says_again}
 use Rattle.lines.specs.Lines.{lined, line_by, soundness_in}
 
-pub sound_no : (n : ℕ) {X : Type 0} → Unsound ≡ Sound n → X
+pub sound_no : (n : ℕ) {X : Type 0} → None ≡ Some n → X
 sound_no n e = absurd (let z : ◌≡◌ {A = ℕ} 0 1 = cc in omega arith)
 
 -- both the scan and the lines
-lined-both : (ok : Bool) (s : Soundness) (n : ℕ) → lined ok s ≡ Sound n → (s ≡ Sound n) × (ok ≡ true)
-lined-both ok Unsound n h = sound_no n h
-lined-both true (Sound m) n h = (h, refl)
-lined-both false (Sound m) n h = sound_no n h
+lined-both : (ok : Bool) (s : Option ℕ) (n : ℕ) → lined ok s ≡ Some n → (s ≡ Some n) × (ok ≡ true)
+lined-both ok None n h = sound_no n h
+lined-both true (Some m) n h = (h, refl)
+lined-both false (Some m) n h = sound_no n h
 
-pub in_scan : (b t : List ℕ) (n : ℕ) → soundness_in b t ≡ Sound n → (soundness_of t ≡ Sound n) × (sound_lines (line_by b) (decode t) ≡ true)
+pub in_scan : (b t : List ℕ) (n : ℕ) → soundness_in b t ≡ Some n → (soundness_of t ≡ Some n) × (sound_lines (line_by b) (decode t) ≡ true)
 unfolding soundness_in
 in_scan b t n h = lined-both (sound_lines (line_by b) (decode t)) (soundness_of t) n h
 
-pub scan_in : (b t : List ℕ) (n : ℕ) → soundness_of t ≡ Sound n → sound_lines (line_by b) (decode t) ≡ true → soundness_in b t ≡ Sound n
+pub scan_in : (b t : List ℕ) (n : ℕ) → soundness_of t ≡ Some n → sound_lines (line_by b) (decode t) ≡ true → soundness_in b t ≡ Some n
 unfolding soundness_in
 scan_in b t n h k = rw (h, k)
 
-pub scan_out : (b t : List ℕ) → soundness_of t ≡ Unsound → soundness_in b t ≡ Unsound
+pub scan_out : (b t : List ℕ) → soundness_of t ≡ None → soundness_in b t ≡ None
 unfolding soundness_in
 scan_out b t h = rw h
 
-pub lines_out : (b t : List ℕ) (n : ℕ) → soundness_of t ≡ Sound n → sound_lines (line_by b) (decode t) ≡ false → soundness_in b t ≡ Unsound
+pub lines_out : (b t : List ℕ) (n : ℕ) → soundness_of t ≡ Some n → sound_lines (line_by b) (decode t) ≡ false → soundness_in b t ≡ None
 unfolding soundness_in
 lines_out b t n h k = rw (h, k)
 
@@ -64,7 +63,7 @@ lines_table line rows vs h =
 
 -- of the bytes of a table that is sound by its lines this is said
 pub says_sound_in : (b : List ℕ) (vs : List Version) (rows : ℕ) → sound_table (line_by b) rows vs ≡ true
-    → soundness_in b (encode vs rows) ≡ Sound (length vs)
+    → soundness_in b (encode vs rows) ≡ Some (length vs)
 says_sound_in b vs rows h =
     let k = lines_table (line_by b) rows vs h in
     scan_in b (encode vs rows) (length vs) (says_sound vs rows k.0)

@@ -5,9 +5,6 @@
 ghost use Rattle.std.specs.Prelude.{◌≡◌, true, ◌+◌, ◌*◌, ◌≤◌, ◌<◌, length};
 ghost use Rattle.model.specs.Books.{under_code, line_in, sound_splits};
 ghost use Rattle.row.specs.Layout.{key_of};
-ghost use Rattle.words.specs.Size.{ROW};
-ghost use Rattle.words.specs.Codec.{words_in};
-ghost use Rattle.rows.specs.Place.{row_at};
 ghost use Rattle.rows.specs.Table.{decode};
 ghost use Rattle.scan.specs.Sound.{SoundTable};
 ghost use Rattle.table.specs.Find.{place_in};
@@ -18,8 +15,7 @@ ghost use Rattle.lines.specs.Pairs.{held_in, meet, bare, lacks, none_of, spares,
 
 use model::{Id, Tn, status};
 use scan::join;
-use table::find;
-use words::ROW;
+use table::{Table, find};
 
 // What of a version its line may have once: that it is live, that it is sending, that it is worked.
 #[derive(Clone, Copy)]
@@ -27,16 +23,6 @@ pub struct Held {
     pub live: bool,
     pub sends: bool,
     pub worked: bool,
-}
-
-// The first word of row i.
-fn head(t: &[u8], i: usize) -> u64
-    requires { i * ROW + ROW ≤ length t.now }
-    ensures { result ≡ (words_in (row_at t.now i)).head }
-{
-    let a = i * ROW;
-    let e = a + ROW;
-    octets::u64_at(&t[a..e], 0)
 }
 
 fn held_of(w: u64) -> Held
@@ -66,155 +52,124 @@ fn has_none(h: Held) -> bool
 const NEAR: usize = 8;
 
 // Where the version of that name is or would be, from a place not behind it on: most numbers have few versions, so it is near.
-fn place_from(t: &[u8], n: usize, k: Id, from: usize) -> usize
-    requires sound_table { SoundTable t.now n }
-    requires tn_bound { (k.tn.0 < 17179869184) × (from ≤ place_in (key_of k) (decode t.now)) }
-    ensures { result ≡ place_in (key_of k) (decode t.now) }
+fn place_from(t: &Table, k: Id, from: usize) -> usize
+    requires tn_bound { (k.tn.0 < 17179869184) × (from ≤ place_in (key_of k) (decode t.now.bytes.now)) }
+    ensures { result ≡ place_in (key_of k) (decode t.now.bytes.now) }
 {
     let key = k.tn.0 * 65536 + k.number as u64;
-    let mut left = NEAR;
-    let mut at = from;
-    while at < n {
-        if key <= head(t, at) / 16384 {
+    let near = t.used.min(from + NEAR);
+    for at in from..near {
+        if key <= find::head(t.bytes, at) / 16384 {
             return at;
         }
-        if left == 0 {
-            return find::place(t, n, k);
-        }
-        left -= 1;
-        at += 1;
     }
-    at
+    if near < t.used {
+        return find::place(t.bytes, t.used, k);
+    }
+    t.used
 }
 
 // Whether no version has that name, whose place is not before `from`.
-fn absent(t: &[u8], n: usize, k: Id, from: usize) -> bool
-    requires sound_table { SoundTable t.now n }
-    requires tn_bound { (k.tn.0 < 17179869184) × (from ≤ place_in (key_of k) (decode t.now)) }
-    ensures { result ≡ lacks k (decode t.now) }
+fn absent(t: &Table, k: Id, from: usize) -> bool
+    requires tn_bound { (k.tn.0 < 17179869184) × (from ≤ place_in (key_of k) (decode t.now.bytes.now)) }
+    ensures { result ≡ lacks k (decode t.now.bytes.now) }
 {
-    let i = place_from(t, n, k, from);
-    if i < n {
-        return head(t, i) / 16384 != k.tn.0 * 65536 + k.number as u64;
+    let i = place_from(t, k, from);
+    if i < t.used {
+        return find::head(t.bytes, i) / 16384 != k.tn.0 * 65536 + k.number as u64;
     }
     true
 }
 
-// The place of the first row from `from` on whose number is not below tn, or n.
-fn reach(t: &[u8], n: usize, tn: Tn, from: usize) -> usize
-    requires sound_table { SoundTable t.now n }
-    requires from_bound { from ≤ place_in (tn.0 * 65536 + 0) (decode t.now) }
-    ensures { result ≡ place_in (tn.0 * 65536 + 0) (decode t.now) }
-{
-    let mut at = from;
-    while at < n {
-        if tn.0 <= head(t, at) / 1073741824 {
-            return at;
-        }
-        at += 1;
-    }
-    at
-}
-
 // Whether no version is of the number whose first place is `at`.
-fn nobody(t: &[u8], n: usize, tn: Tn, at: usize) -> bool
-    requires sound_table { SoundTable t.now n }
-    requires at_value { at ≡ place_in (tn.0 * 65536 + 0) (decode t.now) }
-    ensures { result ≡ none_of tn.0 (decode t.now) }
+fn nobody(t: &Table, tn: Tn, at: usize) -> bool
+    requires at_value { at ≡ place_in (tn.0 * 65536 + 0) (decode t.now.bytes.now) }
+    ensures { result ≡ none_of tn.0 (decode t.now.bytes.now) }
 {
-    if at < n {
-        return head(t, at) / 1073741824 != tn.0;
+    if at < t.used {
+        return find::head(t.bytes, at) / 1073741824 != tn.0;
     }
     true
 }
 
 // Whether no version of the number whose first place is `at` has what h has. Of another number at most three versions have any of it, so
 // that its versions are gone through at most three times.
-fn spared(t: &[u8], n: usize, tn: Tn, h: Held, at: usize) -> bool
-    requires sound_table { SoundTable t.now n }
-    requires at_value { at ≡ place_in (tn.0 * 65536 + 0) (decode t.now) }
-    ensures { result ≡ spares tn.0 h (decode t.now) }
+fn spared(t: &Table, tn: Tn, h: Held, at: usize) -> bool
+    requires at_value { at ≡ place_in (tn.0 * 65536 + 0) (decode t.now.bytes.now) }
+    ensures { result ≡ spares tn.0 h (decode t.now.bytes.now) }
 {
     if has_none(h) {
         return true;
     }
-    let mut i = at;
-    while i < n {
-        let w = head(t, i);
+    for i in at..t.used {
+        let w = find::head(t.bytes, i);
         if w / 1073741824 != tn.0 {
             return true;
         }
         if meets(held_of(w), h) {
             return false;
         }
-        i += 1;
     }
     true
 }
 
 // Whether row i may stand in one line with the versions of its TN under the code c, whose first place is `at`.
-fn row_fits(t: &[u8], n: usize, c: u64, i: usize, at: usize) -> bool
-    requires sound_table { SoundTable t.now n }
-    requires c_bound { (c < 1000000) × (i < n) }
-    requires at_value { at ≡ place_in (under_code c (version_at (decode t.now) i).id.tn.0 * 65536 + 0) (decode t.now) }
-    ensures { result ≡ fits c (decode t.now) (version_at (decode t.now) i) }
+fn row_fits(t: &Table, c: u64, i: usize, at: usize) -> bool
+    requires c_bound { (c < 1000000) × (i < t.now.used) }
+    requires at_value { at ≡ place_in (under_code c (version_at (decode t.now.bytes.now) i).id.tn.0 * 65536 + 0) (decode t.now.bytes.now) }
+    ensures { result ≡ fits c (decode t.now.bytes.now) (version_at (decode t.now.bytes.now) i) }
 {
-    let w = head(t, i);
+    let w = find::head(t.bytes, i);
     let tn = Tn(c * 10000 + w / 1073741824 % 10000);
-    if nobody(t, n, tn, at) {
+    if nobody(t, tn, at) {
         return true;
     }
     let number = (w / 16384 % 65536) as u16;
-    if absent(t, n, Id { tn, number }, at) {
-        return spared(t, n, tn, held_of(w), at);
+    if absent(t, Id { tn, number }, at) {
+        return spared(t, tn, held_of(w), at);
     }
     false
 }
 
-// The place of the first row that stands under the code c or a larger one, or n.
-fn first_under(t: &[u8], n: usize, c: u64) -> usize
-    requires sound_table { SoundTable t.now n }
+// The place of the first row that stands under the code c or a larger one, or behind all.
+fn first_under(t: &Table, c: u64) -> usize
     requires c_bound { c < 1000000 }
-    ensures { result ≡ place_in (c * 10000 * 65536 + 0) (decode t.now) }
+    ensures { result ≡ place_in (c * 10000 * 65536 + 0) (decode t.now.bytes.now) }
 {
     let tn = Tn(c * 10000);
-    find::place(t, n, Id { tn, number: 0 })
+    find::place(t.bytes, t.used, Id { tn, number: 0 })
 }
 
 // Whether no row stands under the code c, whose first place is `at`.
-fn unused(t: &[u8], n: usize, c: u64, at: usize) -> bool
-    requires sound_table { SoundTable t.now n }
-    requires at_value { at ≡ place_in (c * 10000 * 65536 + 0) (decode t.now) }
-    ensures { result ≡ none_under c (decode t.now) }
+fn unused(t: &Table, c: u64, at: usize) -> bool
+    requires at_value { at ≡ place_in (c * 10000 * 65536 + 0) (decode t.now.bytes.now) }
+    ensures { result ≡ none_under c (decode t.now.bytes.now) }
 {
-    if at < n {
-        return head(t, at) / 1073741824 / 10000 != c;
+    if at < t.used {
+        return find::head(t.bytes, at) / 1073741824 / 10000 != c;
     }
     true
 }
 
 // Whether each row under the code d may stand in one line with the rows under the code c: both are gone through once, side by side.
-fn pair_fits(t: &[u8], n: usize, c: u64, d: u64) -> bool
-    requires sound_table { SoundTable t.now n }
+fn pair_fits(t: &Table, c: u64, d: u64) -> bool
     requires c_bound { (c < 1000000) × (d < 1000000) }
-    ensures { result ≡ pair_fits c d (decode t.now) }
+    ensures { result ≡ pair_fits c d (decode t.now.bytes.now) }
 {
-    let mut at = first_under(t, n, c);
-    if unused(t, n, c, at) {
+    let mut at = first_under(t, c);
+    if unused(t, c, at) {
         return true;
     }
-    let mut i = first_under(t, n, d);
-    while i < n {
-        let w = head(t, i);
+    for i in first_under(t, d)..t.used {
+        let w = find::head(t.bytes, i);
         if w / 1073741824 / 10000 != d {
             return true;
         }
-        let tn = Tn(c * 10000 + w / 1073741824 % 10000);
-        at = reach(t, n, tn, at);
-        if !row_fits(t, n, c, i, at) {
+        let tn = c * 10000 + w / 1073741824 % 10000;
+        at = find::reach(t, tn, at);
+        if !row_fits(t, c, i, at) {
             return false;
         }
-        i += 1;
     }
     true
 }
@@ -228,16 +183,15 @@ pub fn sound(books: &[u8], t: &[u8], n: usize) -> bool
     requires books_len { (length books.now ≡ book_bytes) × (sound_splits (splits_of books.now) ≡ true) }
     ensures { result ≡ sound_lines (line_in (splits_of books.now)) (decode t.now) }
 {
-    let mut i: usize = 0;
-    while i < books::SPLIT_PLACES {
+    let table = Table { bytes: t, used: n };
+    for i in 0..books::SPLIT_PLACES {
         let w = octets::u64_at(books, books::SPLITS_AT + 8 * i);
         if w == 0 {
             return true;
         }
-        if !pair_fits(t, n, w / 4294967296, w % 4294967296) {
+        if !pair_fits(&table, w / 4294967296, w % 4294967296) {
             return false;
         }
-        i += 1;
     }
     true
 }

@@ -1,7 +1,6 @@
 // Where what is lent is unsound.
 ghost use Rattle.std.specs.Prelude.{◌≡◌};
-ghost use Rattle.bookfaults.specs.Clauses.{books_fault};
-ghost use Rattle.unsound.specs.Unsound.{fault_in};
+ghost use Rattle.unsound.specs.Unsound.{fault_of_books, fault_in};
 
 use faults::Fault;
 
@@ -16,7 +15,7 @@ pub extern "C" fn lupinenblatt_table_fault(table: &[u8], providers: &[u8], books
 // Where a provider list or books are unsound.
 #[unsafe(no_mangle)]
 pub extern "C" fn lupinenblatt_books_fault(providers: &[u8], books: &[u8]) -> Fault
-    ensures { result ≡ books_fault providers.now books.now }
+    ensures { result ≡ fault_of_books providers.now books.now }
 {
     unsound::books(providers, books)
 }

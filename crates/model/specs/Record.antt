@@ -1,11 +1,20 @@
 -- The event record: what its kind asks of the fields.
 -- Assumes nothing.
-use Rattle.std.specs.Prelude.{ℕ, ◌^◌, Bool, false, cond, not, ◌&&◌, ◌||◌, [], ◌∷◌, ltb, leb, eqb}
+use Rattle.std.specs.Prelude.{ℕ, ◌^◌, Bool, false, cond, not, ◌&&◌, ◌||◌, [], ◌∷◌, ltb, leb, eqb, Result, Err}
 use Rattle.model.specs.Basics.{among}
 use Rattle.model.specs.Kinds as kind
 use Rattle.model.specs.Numbers.{ten_digits, last_cause}
 use Rattle.model.specs.Sound.{yes, no}
 use Rattle.model.specs.declared.Event.{Event}
+use Rattle.model.specs.declared.Malformed.{Malformed}
+
+-- ---- what a record reads as: its event, or malformed [E5]
+
+abbrev pub Reading : Type 0
+Reading = Result Event Malformed
+
+abbrev pub malformed : Reading
+malformed = Err (record {})
 
 -- ---- the kinds
 

@@ -1,12 +1,12 @@
 -- One event on a table, and a list of them.
 -- Assumes nothing.
-use Rattle.std.specs.Prelude.{ℕ, Bool, cond, not, ◌&&◌, List, [], ◌∷◌, ◌++◌, eqb, ltb, leb, length}
+use Rattle.std.specs.Prelude.{ℕ, Bool, cond, not, ◌&&◌, List, [], ◌∷◌, ◌++◌, eqb, ltb, leb, length, Ok, Err}
 use Rattle.std.proofs.Math.Option.{Option, none, some}
 use Rattle.model.specs.Kinds as kind
 use Rattle.model.specs.Books.{Books, sound_books, sound_retries, line_of}
 use Rattle.model.specs.Table.{strike, rows_of, changes}
 use Rattle.model.specs.Sound.{sound_table}
-use Rattle.model.specs.Record.{is_create, is_modify, is_answer, is_broadcast, well_formed}
+use Rattle.model.specs.Record.{Reading, is_create, is_modify, is_answer, is_broadcast, well_formed}
 use Rattle.model.specs.Outcomes.{order_of, judge}
 use Rattle.model.specs.Given.{Given, Result, refuse, accept, unless, found, rest}
 use Rattle.model.specs.Creates.{creates}
@@ -16,8 +16,6 @@ use Rattle.model.specs.Answers.{answers}
 use Rattle.model.specs.Refusals.{refuses}
 use Rattle.model.specs.declared.Version.{Version}
 use Rattle.model.specs.declared.Event.{Event}
-use Rattle.model.specs.declared.Reading.{Reading}
-use Rattle.model.specs.declared.Reading.TheVariants as reading
 use Rattle.model.specs.declared.Message.{Message}
 use Rattle.model.specs.declared.Outcome.{Outcome}
 use Rattle.model.specs.declared.Outcome.TheVariants.{Unsound, Malformed, Unknown}
@@ -90,8 +88,8 @@ given s e t =
 
 -- a record that is malformed, or whose fields are [O9]
 abbrev pub when_read : Reading → (Event → Result) → Result
-when_read reading.Malformed f = refuse Malformed
-when_read (reading.Record e) f = cond (well_formed e) (f e) (refuse Malformed)
+when_read (Err m) f = refuse Malformed
+when_read (Ok e) f = cond (well_formed e) (f e) (refuse Malformed)
 
 -- Outcome 1 comes before 2, and 2 before the rules' own.
 unfoldable pub step : Setting → Reading → List Version → Result
@@ -103,7 +101,7 @@ abbrev pub Step : Type 0
 Step = Event → List Version → Result
 
 abbrev pub step_of : Setting → Step
-step_of s e t = step s (reading.Record e) t
+step_of s e t = step s (Ok e) t
 
 module _ (does : Step) where
   abbrev pub after : Event → List Version → List Version

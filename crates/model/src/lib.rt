@@ -2,10 +2,10 @@
 #![tactic(auto)]
 
 // A telephone number, and a location routing number: ten digits each, never taken for one another. [N1, N2, F6]
-#[derive(Clone, Copy)]
+#[derive(Clone, Copy, PartialEq, Eq)]
 pub struct Tn(pub u64);
 
-#[derive(Clone, Copy)]
+#[derive(Clone, Copy, PartialEq, Eq)]
 pub struct Lrn(pub u64);
 
 // The fields of an event record. [E1]
@@ -23,24 +23,23 @@ pub struct Event {
     pub time: u32,
     pub due: u32,
     // The version type: 1 within one provider, else 0.
+    // Kept: a number, since `fits_bits` asks of any number that it is below 2, and `eleven_of` hands it on.
     pub within: u8,
 }
 
-// What a record reads as. [E5]
-#[derive(Clone, Copy)]
-pub enum Reading {
-    Record(Event),
-    Malformed,
-}
+// A record, or an event's fields, that is none of document 01's. [E5]
+#[derive(Clone, Copy, PartialEq, Eq, Debug)]
+pub struct Malformed;
 
 // A version's name.
-#[derive(Clone, Copy)]
+#[derive(Clone, Copy, PartialEq, Eq)]
 pub struct Id {
     pub tn: Tn,
     pub number: u16,
 }
 
 // The new side: its provider, whether it has created, and what it then has. [V2]
+// Kept: a mark beside the values, since `new_whole` (fault 15) is false of a row that has the one without the other.
 #[derive(Clone, Copy)]
 pub struct NewSide {
     pub provider: u8,
@@ -50,6 +49,7 @@ pub struct NewSide {
 }
 
 // The old side. Authorization: 0 none, 1 yes, 2 no. [V2]
+// Kept: a mark beside the values, since `old_whole` and `cause_fits` (faults 16, 19) are false of rows that have the one without the other.
 #[derive(Clone, Copy)]
 pub struct OldSide {
     pub provider: u8,
@@ -60,7 +60,7 @@ pub struct OldSide {
 }
 
 // Retries used per system, three bits each: systems 1 to 21 in low, 22 to 42 in mid, 43 to 63 in high.
-#[derive(Clone, Copy)]
+#[derive(Clone, Copy, PartialEq, Eq, Default)]
 pub struct Retries {
     pub low: u64,
     pub mid: u64,
@@ -116,46 +116,47 @@ pub struct Provider {
 }
 
 // The two marks of all providers, as sets.
-#[derive(Clone, Copy)]
+#[derive(Clone, Copy, PartialEq, Eq, Default)]
 pub struct Marks {
     pub present: u64,
     pub local: u64,
 }
 
 // What an event gets. The numbers are those of `number_of`: 15 to 17 are none.
-#[derive(Clone, Copy)]
+#[derive(Clone, Copy, PartialEq, Eq)]
 pub enum Outcome {
-    Done,
-    Unsound,
-    Malformed,
-    Absent,
-    Unlisted,
-    Unknown,
-    Standless,
-    Misplaced,
-    Early,
-    Unfit,
-    Busy,
-    Unawaited,
-    NotCurrent,
-    Full,
-    Exhausted,
-    AnotherDue,
+    Done = 0,
+    Unsound = 1,
+    Malformed = 2,
+    Absent = 3,
+    Unlisted = 4,
+    Unknown = 5,
+    Standless = 6,
+    Misplaced = 7,
+    Early = 8,
+    Unfit = 9,
+    Busy = 10,
+    Unawaited = 11,
+    NotCurrent = 12,
+    Full = 13,
+    Exhausted = 14,
+    AnotherDue = 18,
 }
 
 // What selection says of a provider, and why it is not asked. The numbers are those of `class_number`. [A8.1]
-#[derive(Clone, Copy)]
+#[derive(Clone, Copy, PartialEq, Eq)]
 pub enum Class {
-    Selected,
-    NotPresent,
-    NoLocal,
-    FilterOnly,
-    FiltersBoth,
+    Selected = 0,
+    NotPresent = 1,
+    NoLocal = 2,
+    FilterOnly = 3,
+    FiltersBoth = 4,
 }
 
 // The numbers by which records, rows and messages name these things. Code above writes the names.
 
 // Kinds of events. [E2]
+// Kept: numbers, since an Event holds any kind that a record's byte says; `kind_fits` is false of those that are none.
 pub mod kind {
     pub const NEW_CREATES: u8 = 1;
 
@@ -192,6 +193,7 @@ pub mod kind {
 }
 
 // An event's mark, and an old side's authorization. [E1, V2]
+// Kept: numbers, since a record and a row hold any mark of two bits; `kind_fits` and `old_whole` (fault 16) are false of 3.
 pub mod mark {
     pub const NONE: u8 = 0;
 
@@ -201,6 +203,7 @@ pub mod mark {
 }
 
 // Statuses of a version. [V1]
+// Kept: numbers, since a row holds any status of four bits; `is_status` (fault 7) is false of those that are none.
 pub mod status {
     pub const PENDING: u8 = 0;
 
@@ -224,6 +227,7 @@ pub mod status {
 }
 
 // Purposes of a broadcast. [V8]
+// Kept: numbers, since `is_purpose` of `in_range` (fault 13) asks it of any number.
 pub mod purpose {
     pub const NONE: u8 = 0;
 
@@ -237,6 +241,7 @@ pub mod purpose {
 }
 
 // Who cancelled. [K1]
+// Kept: numbers, since a row holds any canceller of two bits; `is_canceller` (fault 11) is false of 3.
 pub mod canceller {
     pub const NOBODY: u8 = 0;
 
@@ -248,6 +253,7 @@ pub mod canceller {
 }
 
 // Who sends, to a version. [G1]
+// Kept: numbers, since `grid_rule` takes any number as a standing, and `canceller_as` reckons with it.
 pub mod standing {
     pub const NEW: u8 = 0;
 
@@ -259,6 +265,7 @@ pub mod standing {
 }
 
 // Sorts of messages. A download's is DOWNLOAD and its purpose. [Y2]
+// Kept: numbers, since a message in a tray has any sort of four bits (`message_of`), and a download's is a sum.
 pub mod sort {
     pub const CREATION: u8 = 1;
 

@@ -1,3 +1,3 @@
-pub mod Turns
+pub mod Chunks
 pub mod Laws
 pub mod Fields

@@ -32,6 +32,7 @@ fn purpose_for(e: Event, v: Version) -> u8
 }
 
 // Whom a broadcast asks: all selected systems, or at a resend those failed that are selected now.
+#[tactic(auto, unfolding(model::specs::Broadcast::asked_for))]
 fn asked_for(selected: u64, e: Event, v: Version) -> u64
     ensures { result ≡ asked_for selected e v }
 {
@@ -55,39 +56,33 @@ fn confirmed_for(e: Event, v: Version) -> u64
 fn new_for(e: Event, v: Version) -> NewSide
     ensures { result ≡ new_for e v }
 {
-    let lrn = e.lrn;
-    let mut new = v.new;
     if e.kind == kind::MODIFY_ACTIVE {
-        new.lrn = lrn;
-        return new;
+        NewSide {
+            lrn: e.lrn,
+            ..v.new
+        }
+    } else {
+        v.new
     }
-    new
 }
 
 // The version in a broadcast that asks the selected systems.
+#[tactic(auto, unfolding(model::specs::Broadcast::opened))]
 pub fn opened(selected: u64, e: Event, v: Version) -> Version
     ensures { result ≡ opened selected e v }
 {
-    let new = new_for(e, v);
-    let purpose = purpose_for(e, v);
-    let confirmed = confirmed_for(e, v);
-    let waiting = asked_for(selected, e, v);
-    let mut w = v;
-    w.status = status::SENDING;
-    w.stamp = e.time;
-    w.new = new;
-    let cast = Broadcast {
-        purpose,
-        start: e.time,
-        confirmed,
-        waiting,
-        failed: 0,
-        retries: Retries {
-            low: 0,
-            mid: 0,
-            high: 0,
+    Version {
+        status: status::SENDING,
+        stamp: e.time,
+        new: new_for(e, v),
+        cast: Broadcast {
+            purpose: purpose_for(e, v),
+            start: e.time,
+            confirmed: confirmed_for(e, v),
+            waiting: asked_for(selected, e, v),
+            failed: 0,
+            retries: Retries::default(),
         },
-    };
-    w.cast = cast;
-    w
+        ..v
+    }
 }

@@ -19,24 +19,7 @@ pub struct Answer {
 pub fn number(o: Outcome) -> u64
     ensures { result ≡ number_of o }
 {
-    match o {
-        Outcome::Done => 0,
-        Outcome::Unsound => 1,
-        Outcome::Malformed => 2,
-        Outcome::Absent => 3,
-        Outcome::Unlisted => 4,
-        Outcome::Unknown => 5,
-        Outcome::Standless => 6,
-        Outcome::Misplaced => 7,
-        Outcome::Early => 8,
-        Outcome::Unfit => 9,
-        Outcome::Busy => 10,
-        Outcome::Unawaited => 11,
-        Outcome::NotCurrent => 12,
-        Outcome::Full => 13,
-        Outcome::Exhausted => 14,
-        Outcome::AnotherDue => 18,
-    }
+    o as u64
 }
 
 // What an event with this outcome and so many messages is answered.

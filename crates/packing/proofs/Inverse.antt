@@ -15,10 +15,9 @@ use Rattle.octets.proofs.Laws.{be_lt, be-digits, digits-be, length_digits}
 use Rattle.octets.specs.Fields.{cut, join, fit}
 use Rattle.octets.proofs.Fields.{fit_at, and_l, and_r, join_lt, join-cut, cut-join}
 use Rattle.model.specs.declared.Event.{Event}
-use Rattle.model.specs.declared.Reading.{Reading}
-use Rattle.model.specs.declared.Reading.TheVariants.{Record, Malformed}
+use Rattle.std.specs.Prelude.{Ok}
 use Rattle.model.specs.Numbers.{ten_digits}
-use Rattle.model.specs.Record.{named, type_fits, kind_fits, fits_bits, well_formed}
+use Rattle.model.specs.Record.{Reading, malformed, named, type_fits, kind_fits, fits_bits, well_formed}
 use Rattle.packing.specs.Layout.{widths, fields_of, event_of, bytes_of, read_fields, read_event}
 
 -- the model's bits are the layout's widths
@@ -44,14 +43,14 @@ pub said_done : (b : Bool) → ◌≡◌ {A = ℕ} 0 (cond b 0 2) → b ≡ true
 said_done true q = refl
 said_done false q = absurd (omega arith)
 
-record_malformed : (e : Event) → Malformed ≡ Record e → ⊥
-record_malformed e q = let z : ◌≡◌ {A = ℕ} 0 1 = cc in omega arith
+record_malformed : (e : Event) → malformed ≡ Ok e → ⊥
+record_malformed e q = cc
 
-answers_record : (b : Bool) (r : Reading) (e : Event) → cond b r Malformed ≡ Record e → (b ≡ true) × (r ≡ Record e)
+answers_record : (b : Bool) (r : Reading) (e : Event) → cond b r malformed ≡ Ok e → (b ≡ true) × (r ≡ Ok e)
 answers_record true r e q = (refl, q)
 answers_record false r e q = absurd (record_malformed e q)
 
-pub record_one : (a b : Event) → Record a ≡ Record b → a ≡ b
+pub record_one : (a b : Event) → ◌≡◌ {A = Reading} (Ok a) (Ok b) → a ≡ b
 record_one a b q = cc
 
 -- ---- write, then read
@@ -60,11 +59,11 @@ read_whole : (xs : List ℕ) → length xs ≡ 24 → read_event xs ≡ read_fie
 unfolding read_event
 read_whole xs h = simp (eq-eqb (length xs) 24 h)
 
-read_formed : (e : Event) → well_formed e ≡ true → read_fields (fields_of e) ≡ Record e
+read_formed : (e : Event) → well_formed e ≡ true → read_fields (fields_of e) ≡ Ok e
 unfolding read_fields
-read_formed e w = ap (λ (b : Bool). cond b (Record e) Malformed) w
+read_formed e w = ap (λ (b : Bool). cond b (Ok e) malformed) w
 
-pub read_written : (e : Event) → well_formed e ≡ true → read_event (bytes_of e) ≡ Record e
+pub read_written : (e : Event) → well_formed e ≡ true → read_event (bytes_of e) ≡ Ok e
 unfolding bytes_of
 read_written e w =
     let fs : List ℕ = fields_of e in
@@ -78,18 +77,18 @@ read_written e w =
 
 -- ---- read, then write
 
-pub bytes_are : (xs : List ℕ) (e : Event) → read_event xs ≡ Record e → (length xs ≡ 24) × (read_fields (cut widths (be 24 xs 0)) ≡ Record e)
+pub bytes_are : (xs : List ℕ) (e : Event) → read_event xs ≡ Ok e → (length xs ≡ 24) × (read_fields (cut widths (be 24 xs 0)) ≡ Ok e)
 unfolding read_event
 bytes_are xs e q =
     let t = answers_record (eqb (length xs) 24) (read_fields (cut widths (be 24 xs 0))) e q in
     (eqb-true (length xs) 24 t.0, t.1)
 
-pub fields_are : (fs : List ℕ) (e : Event) → read_fields fs ≡ Record e → (get_or fs 11 0 ≡ 0) × (well_formed e ≡ true) × (event_of fs ≡ e)
+pub fields_are : (fs : List ℕ) (e : Event) → read_fields fs ≡ Ok e → (get_or fs 11 0 ≡ 0) × (well_formed e ≡ true) × (event_of fs ≡ e)
 unfolding read_fields
 fields_are fs e q =
     let s : Bool = eqb (get_or fs 11 0) 0 in
     let w : Bool = well_formed (event_of fs) in
-    let t = answers_record (s && w) (Record (event_of fs)) e q in
+    let t = answers_record (s && w) (Ok (event_of fs)) e q in
     let i : event_of fs ≡ e = record_one (event_of fs) e t.1 in
     (eqb-true (get_or fs 11 0) 0 (and_l s w t.0), ap well_formed (sym i) ∙ and_r s w t.0, i)
 
@@ -101,7 +100,7 @@ bytes_back : (n : ℕ) → n < 2 ^ 192 → get_or (cut widths n) 11 0 ≡ 0 → 
 unfolding bytes_of
 bytes_back n h z = ap (λ (l : List ℕ). digits 24 (join widths l)) (fields_back n z) ∙ ap (digits 24) (join-cut widths n ∙ mod-eq_of_lt h)
 
-pub written_read : (xs : List ℕ) → Bytes xs → (e : Event) → read_event xs ≡ Record e → bytes_of e ≡ xs
+pub written_read : (xs : List ℕ) → Bytes xs → (e : Event) → read_event xs ≡ Ok e → bytes_of e ≡ xs
 written_read xs h e q =
     let n : ℕ = be 24 xs 0 in
     let a = bytes_are xs e q in

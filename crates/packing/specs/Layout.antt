@@ -1,12 +1,11 @@
 -- The event record: 24 bytes, a number of 192 bits, cut into twelve fields. What its kind asks of the fields stands in the model's Record.
 -- Assumes nothing.
-use Rattle.std.specs.Prelude.{◌≡◌, Bool, cond, ◌&&◌, List, [], ◌∷◌, ◌++◌, ℕ, length, get_or, eqb}
+use Rattle.std.specs.Prelude.{◌≡◌, Bool, cond, ◌&&◌, List, [], ◌∷◌, ◌++◌, ℕ, length, get_or, eqb, ⊤, Result, Ok, Err}
 use Rattle.octets.specs.Octets.{be, digits}
 use Rattle.octets.specs.Fields.{cut, join}
 use Rattle.model.specs.declared.Event.{Event}
-use Rattle.model.specs.declared.Reading.{Reading}
-use Rattle.model.specs.declared.Reading.TheVariants.{Record, Malformed}
-use Rattle.model.specs.Record.{well_formed}
+use Rattle.model.specs.declared.Malformed.{Malformed}
+use Rattle.model.specs.Record.{Reading, malformed, well_formed}
 
 -- Packed most significant bit first: kind 8 bits, sender 6, other 6, authorization or result 2, cause 8, TN 34, LRN 34, version 16, time
 -- 32, due 32, the version type 1, spare 13. [E1, A14.5]
@@ -49,17 +48,22 @@ bytes_of e = digits RECORD (join widths (fields_of e))
 
 -- what fields and spare bits read as: spare bits that are not zero are malformed [E1, E5]
 unfoldable pub read_fields : List ℕ → Reading
-read_fields fs = cond (eqb (get_or fs 11 0) 0 && well_formed (event_of fs)) (Record (event_of fs)) Malformed
+read_fields fs = cond (eqb (get_or fs 11 0) 0 && well_formed (event_of fs)) (Ok (event_of fs)) malformed
 
 -- what bytes read as: 24 of them, and well formed, or malformed [E1, E5, O9]
 unfoldable pub read_event : List ℕ → Reading
-read_event xs = cond (eqb (length xs) RECORD) (read_fields (cut widths (be RECORD xs 0))) Malformed
+read_event xs = cond (eqb (length xs) RECORD) (read_fields (cut widths (be RECORD xs 0))) malformed
 
 -- Writing malformed fields, or to another length, returns 2 and writes nothing. [E5]
 abbrev pub writable : Event → List ℕ → Bool
 writable e xs = eqb (length xs) RECORD && well_formed e
 
--- what a write of an event to the bytes xs leaves there, and says
+-- the number that tells of a write: 0 done, 2 malformed
+abbrev pub told : Result ⊤ Malformed → ℕ
+told (Ok u) = 0
+told (Err m) = 2
+
+-- what a write of an event to the bytes xs leaves there, and says, as its number
 pub record Written (e : Event) (xs ys : List ℕ) (r : ℕ) : Type 0 where
   pub after : ys ≡ cond (writable e xs) (bytes_of e) xs
   pub said : r ≡ cond (writable e xs) 0 2

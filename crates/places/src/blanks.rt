@@ -7,13 +7,11 @@ fn few_free(books: &[u8], at: usize, n: usize, i: usize) -> bool
     requires { at + 8 * n ≤ length books.now }
     ensures { result ≡ free_from (place_of 8 at books.now) (n - i) i }
 {
-    let mut k = i;
-    while k < n {
+    for k in i..n {
         let w = octets::u64_at(books, at + 8 * k);
         if w != 0 {
             return false;
         }
-        k += 1;
     }
     true
 }

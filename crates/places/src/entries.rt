@@ -1,7 +1,7 @@
 // Whether one place of the books is good, as a number: a code's, a filter's, and the codes of a pair. No bytes. [B2, B3, B4]
 ghost use Rattle.std.specs.Prelude.{◌≡◌, ◌||◌, eqb};
 ghost use Rattle.model.specs.Numbers.{is_code};
-ghost use Rattle.places.specs.Good.{good_code, good_filter, good_row};
+ghost use Rattle.places.specs.Good.{good_code, good_filter};
 
 use model::{Marks, limit};
 
@@ -16,7 +16,7 @@ pub fn is_code(c: u64) -> bool
 }
 
 // A code's place, behind the place `last`. [B2]
-fn good_code(marks: Marks, last: u64, w: u64) -> bool
+pub fn good_code(marks: Marks, last: u64, w: u64) -> bool
     ensures { result ≡ good_code marks last w }
 {
     let code = w / 64;
@@ -27,7 +27,7 @@ fn good_code(marks: Marks, last: u64, w: u64) -> bool
 }
 
 // A filter's place, behind the place `last`. [B3]
-fn good_filter(marks: Marks, last: u64, w: u64) -> bool
+pub fn good_filter(marks: Marks, last: u64, w: u64) -> bool
     ensures { result ≡ good_filter marks last w }
 {
     let provider = w / 1048576;
@@ -37,16 +37,6 @@ fn good_filter(marks: Marks, last: u64, w: u64) -> bool
     let known = is_code(w % 1048576);
     let here = systems::has(marks.present, provider as u8);
     (last < w) & ((1 <= provider) & (provider <= PROVIDERS) & here & known)
-}
-
-// A filter's place, or a code's.
-pub fn good_row(filters: bool, marks: Marks, last: u64, w: u64) -> bool
-    ensures { result ≡ good_row filters marks last w }
-{
-    if filters {
-        return good_filter(marks, last, w);
-    }
-    good_code(marks, last, w)
 }
 
 // Whether one of a pair's two codes is the code.

@@ -2,7 +2,7 @@
 -- Assumes nothing.
 use Prim.Native.Nat.{ℕ, zero, suc, ◌+◌, ◌-◌, ◌^◌, ◌≤◌, ◌<◌}
 use mathlib.Core.Path.{◌≡◌, refl, sym, ap, ap₂, ◌∙◌}
-use mathlib.Core.Bool.{Bool, true, false, cond, not, ◌&&◌, ◌||◌, and_assoc, and-true, false≢true}
+use mathlib.Core.Bool.{Bool, true, false, cond, not, ◌&&◌, ◌||◌, and_assoc, and-true}
 use mathlib.Core.List.{List, [], ◌∷◌, ◌++◌, map}
 use native.Mathlib.Nat.{one-mul, add_comm, add-zero, le_refl}
 use native.Mathlib.Decide.{le_ind}
@@ -11,7 +11,7 @@ use native.Mathlib.Omega.{arith}
 use borrow.Author.Tests.{le-leb, lt-leb, leb-true, ltb-true, ltb-false}
 use lib.Bits.{bit_or, or_shifted_r}
 use lib.Dec.{ltb, leb}
-use lib.ListN.{length, get_or, take, get_or-map, get_or-eq_default}
+use lib.ListN.{length, get_or, take, get_or-eq_default}
 use lib.Seq.{take-suc, take-length}
 use Rattle.octets.proofs.Fields.{and_l, and_r}
 use Rattle.systems.specs.Set.{member, mask_of}
@@ -19,18 +19,18 @@ use Rattle.systems.proofs.Laws.{mask_lt, mask_member}
 use Rattle.model.specs.Basics.{all, every, implies}
 use Rattle.model.specs.Books.{sound_marks}
 use Rattle.model.specs.declared.Provider.{Provider}
-use Rattle.providers.specs.declared.Listed.{Listed}
+use Rattle.std.specs.Prelude.{Option, None, Some, is_some}
+use Rattle.std.proofs.lemmas.List.{get_or-map}
 use Rattle.model.specs.declared.Marks.{Marks}
-use Rattle.providers.specs.Providers.{absent, fine, sound_list, present_at, local_at, marks_of, nobody, unsound, listed, entry_of}
+use Rattle.providers.specs.Providers.{absent, fine, sound_list, present_at, local_at, marks_of, nobody, listed, marks_in}
 use Rattle.model.proofs.SoundSets.{every-all, set_mask}
-use Rattle.providers.specs.Growth.{mark_of, adds_to, grown_by, listed_to}
+use Rattle.providers.specs.Growth.{mark_of, grown_by, listed_to}
 
 -- ---- a step of the readers
 
-pub listed_none : (l : List Provider) → ◌≡◌ {A =
-    Listed} (record { sound = true; marks = record { present = 0; local = 0 } }) (listed_to l 0)
+pub listed_none : (l : List Provider) (m : Marks) → (m.present ≡ 0) × (m.local ≡ 0) → Some m ≡ listed_to l 0
 unfolding listed_to
-listed_none l = refl
+listed_none l m h = ap₂ (λ (p q : ℕ). Some (record { present = p; local = q })) h.0 h.1
 
 pub listed_more : (l : List Provider) (n : ℕ) → listed_to l (n + 1) ≡ grown_by (listed_to l n) (get_or l n absent) n
 unfolding listed_to
@@ -99,30 +99,26 @@ sound_more l n h =
         off false = refl
 
 -- what the first n records say, as a whole
-abbrev partly : List Provider → ℕ → Listed
-partly l n =
-    cond (sound_to l n) (record { sound = true; marks = record { present = mask_of (present_at l) n; local = mask_of (local_at l) n } })
-    unsound
+abbrev partly : List Provider → ℕ → Option Marks
+partly l n = cond (sound_to l n) (Some (record { present = mask_of (present_at l) n; local = mask_of (local_at l) n })) None
 
 listed_partly : (l : List Provider) (n : ℕ) → n ≤ length l → listed_to l n ≡ partly l n
 unfolding listed_to mask_of
 listed_partly l zero h = refl
 listed_partly l (suc n) h =
     let k : n < length l = omega arith in
-    ap (λ (z : Listed). grown_by z (get_or l n absent) n) (listed_partly l n (omega arith))
+    ap (λ (z : Option Marks). grown_by z (get_or l n absent) n) (listed_partly l n (omega arith))
     ∙ go (sound_to l n)
-    ∙ ap (λ (b : Bool). cond b
-    (record { sound = true; marks = record { present = mask_of (present_at l) (suc n); local = mask_of (local_at l) (suc n) } }) unsound)
+    ∙ ap (λ (b : Bool). cond b (Some (record { present = mask_of (present_at l) (suc n); local = mask_of (local_at l) (suc n) })) None)
     (sym (sound_more l n k))
   where
     go : (b : Bool) → grown_by
-        (cond b (record { sound = true; marks = record { present = mask_of (present_at l) n; local = mask_of (local_at l) n } }) unsound)
-        (get_or l n absent) n
+        (cond b (Some (record { present = mask_of (present_at l) n; local = mask_of (local_at l) n })) None) (get_or l n absent) n
         ≡ cond (b && ltb n 63 && ((get_or l n absent).present || not (get_or l n absent).local))
-        (record { sound = true; marks = record { present = mask_of (present_at l) (suc n); local = mask_of (local_at l) (suc n) } }) unsound
+        (Some (record { present = mask_of (present_at l) (suc n); local = mask_of (local_at l) (suc n) })) None
     go true =
         ap₂ (λ (p q : ℕ). cond (ltb n 63 && ((get_or l n absent).present || not (get_or l n absent).local))
-        (record { sound = true; marks = record { present = p; local = q } }) unsound)
+        (Some (record { present = p; local = q })) None)
         (mark-step (present_at l) n (get_or l n absent).present (ap (λ (k : ℕ). (get_or l k absent).present) (omega arith)))
         (mark-step (local_at l) n (get_or l n absent).local (ap (λ (k : ℕ). (get_or l k absent).local) (omega arith)))
     go false = refl
@@ -145,36 +141,38 @@ unfolding listed
 listed-all l n e =
     ap (listed_to l) e ∙ listed_partly l (length l) (le_refl (length l))
     ∙ ap (λ (xs : List Provider). cond (leb (length l) 63 && all fine xs)
-    (record { sound = true; marks = record { present = mask_of (present_at l) (length l); local = mask_of (local_at l) (length l) } })
-    unsound) (take-length l)
+    (Some (record { present = mask_of (present_at l) (length l); local = mask_of (local_at l) (length l) })) None) (take-length l)
     ∙ go (leb (length l) 63) refl
   where
     go : (b : Bool) → leb (length l) 63 ≡ b
         → cond (b && all fine l)
-        (record { sound = true; marks = record { present = mask_of (present_at l) (length l); local = mask_of (local_at l) (length l) } })
-        unsound ≡ cond (b && all fine l) (record { sound = true; marks = marks_of l }) unsound
+        (Some (record { present = mask_of (present_at l) (length l); local = mask_of (local_at l) (length l) })) None
+        ≡ cond (b && all fine l) (Some (marks_of l)) None
     go true h =
-        ap₂ (λ (p q : ℕ). cond (all fine l) (record { sound = true; marks = record { present = p; local = q } }) unsound)
+        ap₂ (λ (p q : ℕ). cond (all fine l) (Some (record { present = p; local = q })) None)
         (mask_beyond (present_at l) (length l) 63 (leb-true (length l) 63 h) (λ p k. ap (λ (x : Provider). x.present) (beyond l p k)))
         (mask_beyond (local_at l) (length l) 63 (leb-true (length l) 63 h) (λ p k. ap (λ (x : Provider). x.local) (beyond l p k)))
     go false h = refl
 
--- a turn of the reader of bytes
-pub bytes_more : (bs : List ℕ) (i : ℕ) (l r : Listed) (x : Provider) → l ≡ listed_to (map entry_of bs) i → x ≡ entry_of (get_or bs i 0)
-    → r ≡ grown_by l x i
-    → r ≡ listed_to (map entry_of bs) (i + 1)
-bytes_more bs i l r x hl hx hr =
-    hr ∙ ap₂ (λ (a : Listed) (b : Provider). grown_by a b i) hl (hx ∙ sym (get_or-map entry_of bs i 0))
-    ∙ sym (listed_more (map entry_of bs) i)
+-- records say themselves
+pub says_itself : (l : List Provider) → map (λ (x : Provider). x) l ≡ l
+says_itself [] = refl
+says_itself (x ∷ l) = ap (λ (xs : List Provider). x ∷ xs) (says_itself l)
 
--- a record is added at a place that a provider has
-pub in_room : (sound : Bool) (x : Provider) (i : ℕ) (r : Bool) → r ≡ adds_to sound x i → r ≡ true → i < 63
-in_room sound x i r e t = ltb-true i 63 (go sound (ltb i 63) (x.present || not x.local) (sym e ∙ t))
-  where
-    go : (x y b : Bool) → (x && y && b) ≡ true → y ≡ true
-    go true true b h = refl
-    go true false b h = h
-    go false y b h = absurd (false≢true h)
+-- a turn of the reader
+pub marks_more : {A : Type 0} (says : A → Provider) (xs : List A) (i : ℕ) (e : A) (x : Provider) (m : Marks) (r : Option Marks)
+    → i < length xs → e ≡ get_or xs i e → x ≡ says e → Some m ≡ listed_to (map says xs) i → r ≡ grown_by (Some m) x i
+    → r ≡ listed_to (map says xs) (i + 1)
+marks_more says xs i e x m r h he hx hm hr =
+    hr ∙ ap₂ (λ (a : Option Marks) (b : Provider). grown_by a b i) hm (hx ∙ ap says he ∙ sym (get_or-map says xs i e absent h))
+    ∙ sym (listed_more (map says xs) i)
+
+-- what is unsound so far is unsound
+pub none_stays : (l : List Provider) (n : ℕ) → n ≤ length l → listed_to l n ≡ None → listed l ≡ None
+unfolding listed_to
+none_stays l n h e =
+    sym (listed-all l (length l) refl)
+    ∙ le_ind (λ (k : ℕ). listed_to l k ≡ None) e (λ k x f. ap (λ (z : Option Marks). grown_by z (get_or l k absent) k) f) (length l) h
 
 -- ---- sound marks
 
@@ -188,7 +186,7 @@ unfolding sound_marks every member
 nobody_sound = refl
 
 -- A SOUND LIST has sound marks, and an unsound one's are nobody
-pub listed_sound : (l : List Provider) → sound_marks (listed l).marks ≡ true
+pub listed_sound : (l : List Provider) → sound_marks (marks_in (listed l)) ≡ true
 unfolding listed sound_marks
 listed_sound l = go (leb (length l) 63) (all fine l) refl
   where
@@ -196,7 +194,7 @@ listed_sound l = go (leb (length l) 63) (all fine l) refl
         → implies (member (mask_of (local_at l) 63) p) (member (mask_of (present_at l) 63) p) ≡ true
     within e p h k = rw (mask_member (local_at l) 63 p h k, mask_member (present_at l) 63 p h k) (all_at l e (p - 1))
 
-    go : (a b : Bool) → all fine l ≡ b → sound_marks (cond (a && b) (record { sound = true; marks = marks_of l }) unsound).marks ≡ true
+    go : (a b : Bool) → all fine l ≡ b → sound_marks (marks_in (cond (a && b) (Some (marks_of l)) None)) ≡ true
     go true true e = ap₂ (λ (a b : Bool). a && b) (ap₂ (λ (a b : Bool). a && b) (set_mask (present_at l)) (set_mask (local_at l)))
         (every-all _ 63 (within e))
     go true false e = nobody_sound
@@ -204,22 +202,24 @@ listed_sound l = go (leb (length l) 63) (all fine l) refl
 
 -- ---- what a list says, for callers
 
-pub listed_says : (l : List Provider) → (listed l).sound ≡ sound_list l
+pub listed_says : (l : List Provider) → is_some (listed l) ≡ sound_list l
 unfolding listed
 listed_says l = go (sound_list l)
   where
-    go : (b : Bool) → (cond b (record { sound = true; marks = marks_of l }) unsound).sound ≡ b
+    go : (b : Bool) → is_some (cond b (Some (marks_of l)) None) ≡ b
     go true = refl
     go false = refl
 
-pub listed_marks : (l : List Provider) → sound_list l ≡ true → (listed l).marks ≡ marks_of l
+pub listed_marks : (l : List Provider) → sound_list l ≡ true → listed l ≡ Some (marks_of l)
 unfolding listed
-listed_marks l e = ap (λ (b : Bool). (cond b (record { sound = true; marks = marks_of l }) unsound).marks) e
+listed_marks l e = ap (λ (b : Bool). cond b (Some (marks_of l)) None) e
 
 -- provider p is in the sets where its record, at place p - 1, has the marks
 pub listed-present : (l : List Provider) → sound_list l ≡ true → (p : ℕ) → 0 < p → p ≤ 63
-    → member (listed l).marks.present p ≡ present_at l p
-listed-present l e p h k = ap (λ (m : Marks). member m.present p) (listed_marks l e) ∙ mask_member (present_at l) 63 p h k
+    → member (marks_in (listed l)).present p ≡ present_at l p
+listed-present l e p h k =
+    ap (λ (m : Option Marks). member (marks_in m).present p) (listed_marks l e) ∙ mask_member (present_at l) 63 p h k
 
-pub listed_local : (l : List Provider) → sound_list l ≡ true → (p : ℕ) → 0 < p → p ≤ 63 → member (listed l).marks.local p ≡ local_at l p
-listed_local l e p h k = ap (λ (m : Marks). member m.local p) (listed_marks l e) ∙ mask_member (local_at l) 63 p h k
+pub listed_local : (l : List Provider) → sound_list l ≡ true → (p : ℕ) → 0 < p → p ≤ 63
+    → member (marks_in (listed l)).local p ≡ local_at l p
+listed_local l e p h k = ap (λ (m : Option Marks). member (marks_in m).local p) (listed_marks l e) ∙ mask_member (local_at l) 63 p h k

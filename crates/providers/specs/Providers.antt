@@ -1,12 +1,12 @@
 -- The provider list, as document 01 lends it, and what it says. [B1]
 -- Assumes nothing.
-use Rattle.std.specs.Prelude.{ℕ, ◌-◌, Bool, true, false, cond, not, ◌&&◌, ◌||◌, List, eqb, leb, length, get_or}
+use Rattle.std.specs.Prelude.{ℕ, ◌-◌, Bool, false, cond, not, ◌&&◌, ◌||◌, List, eqb, leb, length, get_or}
+use Rattle.std.specs.Prelude.{Option, None, Some, unwrap_or}
 use Rattle.model.specs.Numbers.{last_provider}
 use Rattle.systems.specs.Set.{mask_of}
 use Rattle.model.specs.Basics.{all, implies}
 use Rattle.model.specs.declared.Provider.{Provider}
 use Rattle.model.specs.declared.Marks.{Marks}
-use Rattle.providers.specs.declared.Listed.{Listed}
 
 -- what stands at a place beyond the list's end
 abbrev pub absent : Provider
@@ -34,12 +34,13 @@ marks_of l = record { present = mask_of (present_at l) last_provider; local = ma
 abbrev pub nobody : Marks
 nobody = record { present = 0; local = 0 }
 
-abbrev pub unsound : Listed
-unsound = record { sound = false; marks = nobody }
-
 -- what the list says: its marks, where it is sound
-unfoldable pub listed : List Provider → Listed
-listed l = cond (sound_list l) (record { sound = true; marks = marks_of l }) unsound
+unfoldable pub listed : List Provider → Option Marks
+listed l = cond (sound_list l) (Some (marks_of l)) None
+
+-- the marks that a list says: of an unsound one, nobody
+abbrev pub marks_in : Option Marks → Marks
+marks_in l = unwrap_or l nobody
 
 -- A byte of the list: 0 absent, 1 present, 3 present and runs a Local SMS. Any other is read as the second mark without the first, which no
 -- sound list has.

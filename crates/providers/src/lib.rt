@@ -11,14 +11,38 @@ use model::{Marks, Provider, limit};
 // The largest provider, as a number of places.
 const PROVIDERS: usize = limit::PROVIDERS as usize;
 
-// Whether the list is sound, and its marks as sets; an unsound list's are empty.
-#[derive(Clone, Copy)]
-pub struct Listed {
-    pub sound: bool,
-    pub marks: Marks,
+// A record of the list, in the form in which it is lent.
+trait Entry: Copy {
+    ghost use Rattle.model.specs.declared.Provider.{Provider};
+
+    ghost says: { Self → Provider };
+
+    fn entry(self) -> Provider
+        ensures { result ≡ says self };
+}
+
+impl Entry for Provider {
+    ghost says = { λ x. x };
+
+    fn entry(self) -> Provider {
+        self
+    }
+}
+
+// A byte of the list as a record.
+impl Entry for u8 {
+    ghost says = { entry_of };
+
+    fn entry(self) -> Provider {
+        Provider {
+            present: (self == 1) | (self == 3),
+            local: !((self == 0) | (self == 1)),
+        }
+    }
 }
 
 // s with the provider at place i, where on says so.
+#[tactic(auto, unfolding(crate::specs::Growth::mark_of))]
 fn mark(s: u64, on: bool, i: usize) -> u64
     requires { i < 63 }
     ensures { result ≡ mark_of s on i }
@@ -30,80 +54,48 @@ fn mark(s: u64, on: bool, i: usize) -> u64
 }
 
 // Whether a list that was sound so far is sound with the record at place i.
-fn adds(sound: bool, x: Provider, i: usize) -> bool
-    ensures { result ≡ adds_to sound x i }
+fn adds(x: Provider, i: usize) -> bool
+    ensures { result ≡ adds_to x i }
 {
-    sound & (i < PROVIDERS) & (x.present | !x.local)
+    (i < PROVIDERS) & (x.present | !x.local)
 }
 
-// l with what the record at place i says.
-fn grown(l: Listed, x: Provider, i: usize) -> Listed
-    ensures { result ≡ grown_by l x i }
+// m with what the record at place i says.
+fn grown(m: Marks, x: Provider, i: usize) -> Option<Marks>
+    ensures { result ≡ grown_by (Some m) x i }
 {
-    let m = l.marks;
-    if adds(l.sound, x, i) {
-        let present = mark(m.present, x.present, i);
-        let local = mark(m.local, x.local, i);
-        return Listed {
-            sound: true,
-            marks: Marks { present, local },
-        };
+    if !adds(x, i) {
+        return None;
     }
-    Listed {
-        sound: false,
-        marks: Marks {
-            present: 0,
-            local: 0,
-        },
+    let present = mark(m.present, x.present, i);
+    let local = mark(m.local, x.local, i);
+    Some(Marks { present, local })
+}
+
+// What a list of records says: its marks as sets, where it is sound.
+fn marks_of<E: Entry>(list: &[E]) -> Option<Marks>
+    ensures { result ≡ listed (map E.says list.now) }
+{
+    let mut m = Marks::default();
+    for (i, e) in list.iter().enumerate() {
+        m = grown(m, e.entry(), i)?;
     }
+    Some(m)
 }
 
 // The list as records: place i is provider i + 1.
-pub fn marks_of_list(list: &[Provider]) -> Listed
+#[tactic(auto, using(crate::proofs::Laws::says_itself))]
+pub fn marks_of_list(list: &[Provider]) -> Option<Marks>
     ensures { result ≡ listed list.now }
 {
-    let mut l = Listed {
-        sound: true,
-        marks: Marks {
-            present: 0,
-            local: 0,
-        },
-    };
-    let mut i: usize = 0;
-    while i < list.len() {
-        l = grown(l, list[i], i);
-        i += 1;
-    }
-    l
-}
-
-// A byte of the list as a record.
-fn entry(b: u8) -> Provider
-    ensures { result ≡ entry_of b }
-{
-    Provider {
-        present: (b == 1) | (b == 3),
-        local: !((b == 0) | (b == 1)),
-    }
+    marks_of(list)
 }
 
 // The same list as bytes.
-pub fn marks_of_bytes(bytes: &[u8]) -> Listed
+pub fn marks_of_bytes(bytes: &[u8]) -> Option<Marks>
     ensures { result ≡ listed (map entry_of bytes.now) }
 {
-    let mut l = Listed {
-        sound: true,
-        marks: Marks {
-            present: 0,
-            local: 0,
-        },
-    };
-    let mut i: usize = 0;
-    while i < bytes.len() {
-        l = grown(l, entry(bytes[i]), i);
-        i += 1;
-    }
-    l
+    marks_of(bytes)
 }
 
 // Whether the marks are sound: neither set has place 0, and the second lies within the first. For any two numbers.

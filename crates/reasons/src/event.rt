@@ -1,171 +1,137 @@
 // The event record that is asked for. Its file is read through, a thousand records at a time.
-use crate::question::{EVENTS, Question};
-use crate::{files, question, texts};
-use model::{Event, Reading, kind};
+use crate::question::{Asked, EVENTS, Question};
+use crate::texts::Kind;
+use model::{Event, Malformed, kind};
+use program::{Program, Told, fill};
 use record::RECORD;
 use std::io::Read;
-use std::rt::{Env, Files};
 
 // So many records, and so many bytes, are read at once.
 const RECORDS: u64 = 1024;
 
 const CHUNK: usize = 24576;
 
-fn say_kind(rt: &impl Env, errors: &impl Print, place: u64, kind: u8) {
-    files::put_name(rt, errors, EVENTS);
-    files::put(errors, b"the record at place ");
-    files::put_number(errors, place);
-    files::put(errors, b" starts no broadcast: its kind is ");
-    files::put_number(errors, kind as u64);
-    files::put(errors, b", ");
-    texts::put_kind(errors, kind);
-    files::put(errors, b"\n");
-}
-
-fn of_record(rt: &impl Env, errors: &impl Print, place: u64, e: Event) -> Question {
+fn of_record(program: Program<'_>, place: u64, e: Event) -> Result<Question, Told> {
     let kind = e.kind;
     match kind {
         // The kinds that start a broadcast.
-        kind::ACTIVATE | kind::MODIFY_ACTIVE | kind::DISCONNECT | kind::RESEND => Question {
-            asked: true,
-            kind,
-            version: e.version,
+        kind::ACTIVATE | kind::MODIFY_ACTIVE | kind::DISCONNECT | kind::RESEND => Ok(Question {
             tn: e.tn.0,
-        },
-        _ => {
-            say_kind(rt, errors, place, kind);
-            question::none()
-        }
+            event: Some(Asked {
+                kind,
+                version: e.version,
+            }),
+        }),
+        _ => Err(program.say_of(
+            EVENTS,
+            format_args!(
+                "the record at place {place} starts no broadcast: its kind is {kind}, {}",
+                Kind(kind)
+            ),
+        )),
     }
 }
 
-fn say_malformed(rt: &impl Env, errors: &impl Print, place: u64) {
-    files::put_name(rt, errors, EVENTS);
-    files::put(errors, b"the record at place ");
-    files::put_number(errors, place);
-    files::put(errors, b" is malformed: docs/LAYOUTS.md has its form\n");
-}
-
-fn of_bytes(rt: &impl Env, errors: &impl Print, place: u64, bytes: &[u8]) -> Question {
+fn of_bytes(program: Program<'_>, place: u64, bytes: &[u8]) -> Result<Question, Told> {
     let got = record::read(bytes);
     match got {
-        Reading::Record(e) => of_record(rt, errors, place, e),
-        Reading::Malformed => {
-            say_malformed(rt, errors, place);
-            question::none()
-        }
+        Ok(e) => of_record(program, place, e),
+        Err(Malformed) => Err(program.say_of(
+            EVENTS,
+            format_args!("the record at place {place} is malformed: docs/LAYOUTS.md has its form"),
+        )),
     }
 }
 
 // The record of a file that has no other.
-pub fn alone(rt: &(impl Env + Files), errors: &impl Print) -> Question {
+pub fn alone(program: Program<'_>) -> Result<Question, Told> {
     let mut bytes = [0u8; RECORD];
-    let n = files::load_up_to(
-        rt,
-        errors,
+    let bytes = program.load(
         EVENTS,
         &mut bytes,
-        b"longer than one record of 24 bytes: a PLACE behind it says which",
-    );
-    if n == RECORD {
-        return of_bytes(rt, errors, 1, &bytes);
+        "longer than one record of 24 bytes: a PLACE behind it says which",
+    )?;
+    if bytes.len() < RECORD {
+        return Err(program.say_of(EVENTS, "shorter than a record of 24 bytes"));
     }
-    if n < RECORD {
-        files::say_of(rt, errors, EVENTS, b"shorter than a record of 24 bytes");
-    }
-    question::none()
+    of_bytes(program, 1, bytes)
 }
 
-// Where the reading of a file stands: so many records are to be read past still, and the last turn got so many bytes.
+// What a file has that ends too early: whole records, and bytes behind them.
 #[derive(Clone, Copy)]
-struct Stand {
-    left: u64,
-    got: usize,
+struct Short {
+    records: u64,
+    rest: usize,
+}
+
+impl Short {
+    // A file that ends so many bytes behind so many turns of reading.
+    fn after(turns: u64, bytes: usize) -> Short {
+        Short {
+            records: turns
+                .wrapping_mul(RECORDS)
+                .wrapping_add((bytes / RECORD) as u64),
+            rest: bytes % RECORD,
+        }
+    }
 }
 
 // Reads past as much as is read at once; how many bytes there were.
 fn pass(file: &mut impl Read) -> usize {
     let mut bytes = [0u8; CHUNK];
-    files::fill(file, &mut bytes)
+    fill(file, &mut bytes)
 }
 
-// Reads past so many records, up to the last few; as many as are read at once are left only where the file ended.
-fn pass_all(file: &mut impl Read, before: u64) -> Stand {
-    let mut left = before;
-    while left >= RECORDS {
+// So many turns of reading past; an error where the file ends in one of them.
+fn pass_all(file: &mut impl Read, turns: u64) -> Result<(), Short> {
+    for turn in 0..turns {
         let got = pass(file);
         if got < CHUNK {
-            return Stand { left, got };
+            return Err(Short::after(turn, got));
         }
-        left -= RECORDS;
     }
-    Stand { left, got: 0 }
+    Ok(())
 }
 
-// How many whole records a file has that ended so many before the place, with so many bytes in the last turn.
-fn counted(place: u64, left: u64, bytes: usize) -> u64 {
-    let before = place.wrapping_sub(1);
-    let passed = before.wrapping_sub(left);
-    passed.wrapping_add((bytes / RECORD) as u64)
-}
-
-fn say_behind(rt: &impl Env, errors: &impl Print, place: u64, records: u64, rest: u64) {
-    files::put_name(rt, errors, EVENTS);
-    files::put(errors, b"no place ");
-    files::put_number(errors, place);
-    files::put(errors, b" in ");
-    files::put_number(errors, records);
-    files::put(errors, b" records");
-    if rest > 0 {
-        files::put(errors, b" and ");
-        files::put_number(errors, rest);
-        files::put(errors, b" bytes");
-    }
-    files::put(errors, b"\n");
-}
-
-// What was read does not reach the record: the file cannot be read, or ends.
-fn of_none(
-    rt: &impl Env,
-    errors: &impl Print,
-    file: &mut impl Read,
-    place: u64,
-    left: u64,
-    bytes: usize,
-) -> Question {
-    if files::ended(rt, errors, file, EVENTS, b"grew while it was read") {
-        say_behind(
-            rt,
-            errors,
-            place,
-            counted(place, left, bytes),
-            (bytes % RECORD) as u64,
-        );
-    }
-    question::none()
-}
-
-// The record at a place of an open file.
-fn of_open(rt: &impl Env, errors: &impl Print, file: &mut impl Read, place: u64) -> Question {
-    let stand = pass_all(file, place.wrapping_sub(1));
-    let left = stand.left;
-    if left >= RECORDS {
-        return of_none(rt, errors, file, place, left, stand.got);
-    }
-    let from = left as usize * RECORD;
-    let end = from + RECORD;
+// The record behind so many others; an error where the file ends before its end.
+fn behind(file: &mut impl Read, before: u64) -> Result<[u8; RECORD], Short> {
+    let turns = before / RECORDS;
+    pass_all(file, turns)?;
     let mut bytes = [0u8; CHUNK];
-    let n = files::fill(file, &mut bytes);
-    if n < end {
-        return of_none(rt, errors, file, place, left, n);
+    let got = fill(file, &mut bytes);
+    let from = (before % RECORDS) as usize * RECORD;
+    let end = from + RECORD;
+    if got < end {
+        return Err(Short::after(turns, got));
     }
-    of_bytes(rt, errors, place, &bytes[from..end])
+    let mut record = [0u8; RECORD];
+    record.copy_from_slice(&bytes[from..end]);
+    Ok(record)
+}
+
+fn say_short(program: Program<'_>, place: u64, short: Short) -> Told {
+    let Short { records, rest } = short;
+    if rest > 0 {
+        program.say_of(
+            EVENTS,
+            format_args!("no place {place} in {records} records and {rest} bytes"),
+        )
+    } else {
+        program.say_of(
+            EVENTS,
+            format_args!("no place {place} in {records} records"),
+        )
+    }
 }
 
 // The record at a place, counted from 1.
-pub fn at(rt: &(impl Env + Files), errors: &impl Print, place: u64) -> Question {
-    match files::open(rt, errors, EVENTS) {
-        Some(mut file) => of_open(rt, errors, &mut file, place),
-        None => question::none(),
+pub fn at(program: Program<'_>, place: u64) -> Result<Question, Told> {
+    let mut file = program.open(EVENTS)?;
+    match behind(&mut file, place.wrapping_sub(1)) {
+        Ok(record) => of_bytes(program, place, &record),
+        Err(short) => {
+            program.end(&mut file, EVENTS, "grew while it was read")?;
+            Err(say_short(program, place, short))
+        }
     }
 }

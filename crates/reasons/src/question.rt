@@ -1,6 +1,6 @@
 // What the arguments ask for: a TN, or the event at a place of a file.
-use crate::{event, files};
-use std::rt::{Env, Files};
+use crate::event;
+use program::{Program, Told};
 
 pub const PROVIDERS: usize = 1;
 
@@ -14,70 +14,59 @@ pub const EVENTS: usize = 4;
 
 const PLACE: usize = 5;
 
-// A TN alone, with kind and version 0, or an event's.
+// The event that a question is of.
 #[derive(Clone, Copy)]
-pub struct Question {
-    pub asked: bool,
+pub struct Asked {
     pub kind: u8,
     pub version: u16,
+}
+
+// A TN alone, or an event's.
+#[derive(Clone, Copy)]
+pub struct Question {
     pub tn: u64,
+    pub event: Option<Asked>,
 }
 
-// There is none, and that was told.
-pub fn none() -> Question {
-    Question {
-        asked: false,
-        kind: 0,
-        version: 0,
-        tn: 0,
-    }
-}
-
-fn is_word(rt: &impl Env, text: &[u8]) -> bool {
-    let mut word = [0u8; 16];
-    let n = files::argument(rt, WORD, &mut word);
-    &word[..n] == text
+fn is_word(program: Program<'_>, text: &[u8]) -> bool {
+    program.named(WORD).as_bytes() == text
 }
 
 // Whether there are as many arguments as the word in their middle asks for.
-pub fn fits(rt: &impl Env) -> bool {
-    if !files::is_given(rt, TN) || files::is_given(rt, PLACE + 1) {
+pub fn fits(program: Program<'_>) -> bool {
+    if !program.has(TN) || program.has(PLACE + 1) {
         return false;
     }
-    is_word(rt, b"event") || !files::is_given(rt, PLACE) && is_word(rt, b"tn")
+    is_word(program, b"event") || !program.has(PLACE) && is_word(program, b"tn")
 }
 
-// The TN that ten digits are; what is none is told with the answer.
-fn of_tn(rt: &impl Env) -> Question {
-    let mut text = [0u8; 10];
-    let n = files::argument(rt, TN, &mut text);
-    Question {
-        asked: true,
-        kind: 0,
-        version: 0,
-        tn: if n == 10 { decimal::number(&text) } else { 0 },
-    }
+// The TN that ten digits are; 0, which is none, for any other text, and that is told with the answer.
+fn of_tn(program: Program<'_>) -> Question {
+    let text = program.named(TN);
+    let digits = text.as_bytes();
+    let tn = if digits.len() == 10 {
+        decimal::number(digits).unwrap_or(0)
+    } else {
+        0
+    };
+    Question { tn, event: None }
 }
 
 // The event at the place that the last argument names, or in a file of one.
-fn of_event(rt: &(impl Env + Files), errors: &impl Print) -> Question {
-    if !files::is_given(rt, PLACE) {
-        return event::alone(rt, errors);
+fn of_event(program: Program<'_>) -> Result<Question, Told> {
+    if !program.has(PLACE) {
+        return event::alone(program);
     }
-    let mut text = [0u8; 20];
-    let n = files::argument(rt, PLACE, &mut text);
-    let place = decimal::number(&text[..n]);
-    if place == 0 {
-        files::say_of(rt, errors, PLACE, b"no place: they are counted from 1");
-        return none();
+    match decimal::number(program.named(PLACE).as_bytes()) {
+        Some(place) => event::at(program, place),
+        None => Err(program.say_of(PLACE, "no place: they are counted from 1")),
     }
-    event::at(rt, errors, place)
 }
 
-pub fn ask(rt: &(impl Env + Files), errors: &impl Print) -> Question {
-    if is_word(rt, b"tn") {
-        of_tn(rt)
+pub fn ask(program: Program<'_>) -> Result<Question, Told> {
+    if is_word(program, b"tn") {
+        Ok(of_tn(program))
     } else {
-        of_event(rt, errors)
+        of_event(program)
     }
 }

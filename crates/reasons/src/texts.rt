@@ -1,77 +1,67 @@
 // The words: of a provider's class, of an event's kind, and of what was asked.
 use crate::question::Question;
 use model::kind;
+use std::fmt;
+use std::fmt::{Display, Formatter};
 
-fn put(out: &impl Print, text: &[u8]) {
-    let _ = out.write_all(text);
-}
+// A class by its number, in document 02's words.
+#[derive(Clone, Copy)]
+pub struct Class(pub u8);
 
-fn put_with(out: &impl Print, text: &[u8], n: u64) {
-    put(out, text);
-    let _ = out.print(n);
-}
-
-// Document 02's words for a class, by its number.
-fn put_class(out: &impl Print, class: u8) {
-    match class {
-        0 => put(out, b"selected\n"),
-        1 => put(out, b"not present\n"),
-        2 => put(out, b"no Local SMS\n"),
-        3 => put(out, b"filter on the only code\n"),
-        _ => put(out, b"filters on both codes\n"),
+impl Display for Class {
+    fn fmt<W: fmt::Write>(&self, f: &mut Formatter<W>) -> fmt::Result {
+        f.write_str(match self.0 {
+            0 => "selected",
+            1 => "not present",
+            2 => "no Local SMS",
+            3 => "filter on the only code",
+            _ => "filters on both codes",
+        })
     }
 }
 
-pub fn say_provider(out: &impl Print, provider: u64, class: u8) {
-    put_with(out, b"provider ", provider);
-    put(out, b": ");
-    put_class(out, class);
-}
+// A kind of event by its number, in the header's words.
+#[derive(Clone, Copy)]
+pub struct Kind(pub u8);
 
-// The header's words for a kind, to a stream.
-pub fn put_kind(out: &impl Print, kind: u8) {
-    match kind {
-        kind::NEW_CREATES => put(out, b"new side creates"),
-        kind::OLD_CREATES => put(out, b"old side creates"),
-        kind::NEW_MODIFIES => put(out, b"new side modifies"),
-        kind::OLD_MODIFIES => put(out, b"old side modifies"),
-        kind::ACTIVATE => put(out, b"activate"),
-        kind::CANCEL => put(out, b"cancel"),
-        kind::ACKNOWLEDGE_CANCEL => put(out, b"acknowledge cancel"),
-        kind::RESOLVE_CONFLICT => put(out, b"resolve conflict"),
-        kind::MODIFY_ACTIVE => put(out, b"modify active"),
-        kind::DISCONNECT => put(out, b"disconnect"),
-        kind::REPLY => put(out, b"reply"),
-        kind::SILENCE => put(out, b"silence"),
-        kind::WINDOW_RAN_OUT => put(out, b"window ran out"),
-        kind::RESEND => put(out, b"resend"),
-        _ => put(out, b"purge"),
+impl Display for Kind {
+    fn fmt<W: fmt::Write>(&self, f: &mut Formatter<W>) -> fmt::Result {
+        f.write_str(match self.0 {
+            kind::NEW_CREATES => "new side creates",
+            kind::OLD_CREATES => "old side creates",
+            kind::NEW_MODIFIES => "new side modifies",
+            kind::OLD_MODIFIES => "old side modifies",
+            kind::ACTIVATE => "activate",
+            kind::CANCEL => "cancel",
+            kind::ACKNOWLEDGE_CANCEL => "acknowledge cancel",
+            kind::RESOLVE_CONFLICT => "resolve conflict",
+            kind::MODIFY_ACTIVE => "modify active",
+            kind::DISCONNECT => "disconnect",
+            kind::REPLY => "reply",
+            kind::SILENCE => "silence",
+            kind::WINDOW_RAN_OUT => "window ran out",
+            kind::RESEND => "resend",
+            _ => "purge",
+        })
     }
 }
 
-// An event by its kind and version; a TN alone has neither.
-fn put_asked(out: &impl Print, q: Question) {
-    if q.kind == 0 {
-        put_with(out, b"TN ", q.tn);
-        return;
+impl Display for Question {
+    fn fmt<W: fmt::Write>(&self, f: &mut Formatter<W>) -> fmt::Result {
+        match self.event {
+            Some(e) => write!(f, "{}: TN {} version {}", Kind(e.kind), self.tn, e.version),
+            None => write!(f, "TN {}", self.tn),
+        }
     }
-    put_kind(out, q.kind);
-    put_with(out, b": TN ", q.tn);
-    put_with(out, b" version ", q.version as u64);
 }
 
-// What was asked, with the TN's code and the code that it is paired with, or 0.
-pub fn say_question(out: &impl Print, q: Question, code: u64, partner: u64) {
-    put_asked(out, q);
-    put_with(out, b", code ", code);
-    if partner != 0 {
-        put_with(out, b", paired with ", partner);
-    }
-    put(out, b"\n");
-    if q.kind == kind::RESEND {
-        put(
-            out,
-            b"a resend asks, of the selected, only those whose download failed\n",
-        );
+// What was asked, with the TN's code and the code that it is paired with, if any.
+pub fn say_question(out: &impl Print, q: Question, code: u64, partner: Option<u64>) {
+    let _ = match partner {
+        Some(other) => println!(out; "{q}, code {code}, paired with {other}"),
+        None => println!(out; "{q}, code {code}"),
+    };
+    if matches!(q.event, Some(e) if e.kind == kind::RESEND) {
+        let _ = println!(out; "a resend asks, of the selected, only those whose download failed");
     }
 }

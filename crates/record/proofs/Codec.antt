@@ -11,8 +11,8 @@ use Rattle.octets.specs.Octets.{be, digits, put}
 use Rattle.octets.proofs.Laws.{be_add, digits_add, put_after, length_digits}
 use Rattle.octets.specs.Fields.{cut}
 use Rattle.model.specs.declared.Event.{Event}
-use Rattle.model.specs.declared.Reading.TheVariants.{Record, Malformed}
-use Rattle.model.specs.Record.{well_formed}
+use Rattle.std.specs.Prelude.{Ok}
+use Rattle.model.specs.Record.{malformed, well_formed}
 use Rattle.packing.specs.Layout.{widths, bytes_of, read_fields, read_event, Written}
 use Rattle.packing.specs.InWords.{event_of_words, words, Fitted, Packed}
 use Rattle.packing.proofs.Spans.{event_in_words, spare_in_words, packed_joined}
@@ -20,7 +20,7 @@ use Rattle.packing.proofs.Inverse.{bits_at, formed_bits}
 
 -- ---- reading
 
-pub read_length : (xs : List ℕ) → (length xs ≡ 24 → ⊥) → Malformed ≡ read_event xs
+pub read_length : (xs : List ℕ) → (length xs ≡ 24 → ⊥) → malformed ≡ read_event xs
 unfolding read_event
 read_length xs n = simp (ne_eqb (length xs) 24 n)
 
@@ -32,12 +32,12 @@ module _ (xs : List ℕ) (a b c : ℕ) (h : length xs ≡ 24) (p : a ≡ be 8 xs
   unfolding read_event
   read_words = simp (eq-eqb (length xs) 24 h) (ap (λ (n : ℕ). read_fields (cut widths n)) (be-words xs ∙ rw (p, q, r)))
 
-  pub read_spare : b < 2 ^ 64 → c < 2 ^ 64 → (c % 2 ^ 13 ≡ 0 → ⊥) → Malformed ≡ read_event xs
+  pub read_spare : b < 2 ^ 64 → c < 2 ^ 64 → (c % 2 ^ 13 ≡ 0 → ⊥) → malformed ≡ read_event xs
   unfolding read_fields
   read_spare hb hc n = rw (read_words, spare_in_words a b c hb hc, ne_eqb (c % 2 ^ 13) 0 n)
 
   pub read_fields_lem : b < 2 ^ 64 → c < 2 ^ 64 → (e : Event) (w : Bool) → e ≡ event_of_words a b c → w ≡ well_formed e → c % 2 ^ 13 ≡ 0
-      → cond w (Record e) Malformed ≡ read_event xs
+      → cond w (Ok e) malformed ≡ read_event xs
   unfolding read_fields
   read_fields_lem hb hc e w s t z = rw (read_words, spare_in_words a b c hb hc, z, event_in_words a b c hb hc, ← s, ← t)
 

@@ -2,49 +2,48 @@
 #![tactic(auto)]
 
 ghost use Rattle.std.specs.Prelude.{◌≡◌};
-ghost use Rattle.packing.specs.Layout.{read_event, Written};
+ghost use Rattle.packing.specs.Layout.{read_event, told, Written};
 
 use kinds::well_formed;
-use model::{Event, Reading};
+use model::{Event, Malformed};
 
 // The size of a record in bytes. [E1]
 pub const RECORD: usize = 24;
 
 // The fields of a record of 24 bytes that is well formed.
-pub fn read(s: &[u8]) -> Reading
+pub fn read(s: &[u8]) -> Result<Event, Malformed>
     ensures { result ≡ read_event s.now }
 {
     if s.len() != RECORD {
-        return Reading::Malformed;
+        return Err(Malformed);
     }
     let first = octets::u64_at(s, 0);
     let second = octets::u64_at(s, 8);
     let third = octets::u64_at(s, 16);
     if third % 8192 != 0 {
-        return Reading::Malformed;
+        return Err(Malformed);
     }
     let e = packing::unpack(first, second, third);
     if well_formed(e) {
-        Reading::Record(e)
+        Ok(e)
     } else {
-        Reading::Malformed
+        Err(Malformed)
     }
 }
 
-// Writes the record of well-formed fields to 24 bytes and returns 0; otherwise returns 2 and writes nothing.
-pub fn write(e: Event, out: &mut [u8]) -> u8
-    ensures { Written e out.old out.new result }
+// Writes the record of well-formed fields to 24 bytes; an error writes nothing.
+pub fn write(e: Event, out: &mut [u8]) -> Result<(), Malformed>
+    ensures { Written e out.old out.new (told result) }
 {
     if out.len() != RECORD {
-        return 2;
+        return Err(Malformed);
     }
-    if well_formed(e) {
-        let w = packing::pack(e);
-        octets::put_u64(out, 0, w.first);
-        octets::put_u64(out, 8, w.second);
-        octets::put_u64(out, 16, w.third);
-        0
-    } else {
-        2
+    if !well_formed(e) {
+        return Err(Malformed);
     }
+    let w = packing::pack(e);
+    octets::put_u64(out, 0, w.first);
+    octets::put_u64(out, 8, w.second);
+    octets::put_u64(out, 16, w.third);
+    Ok(())
 }

@@ -1,118 +1,132 @@
 // Reads, writes and refuses the records of tests/record_vectors.py, a line for each: what it prints is held to that encoder's own answers.
 #![tactic(auto)]
 
-ghost use Rattle.std.specs.Prelude.{◌≤◌, length};
+ghost use Rattle.std.specs.Prelude.{◌<◌};
 
 use fields::FIELDS;
-use model::{Event, Lrn, Reading, Tn};
+use model::{Event, Lrn, Malformed, Tn};
+use reading::fill;
 use record::RECORD;
+use std::fmt;
+use std::fmt::{Display, Formatter};
 use std::io::Read;
+
+// A case: its letter, a length, and eleven fields or the bytes of a record.
+const FRAME: usize = 96;
+
+type Frame = [u8; FRAME];
+
+// The field at a place, in a word behind the first.
+fn field(frame: &Frame, i: usize) -> u64
+    requires { i < 11 }
+{
+    octets::u64_at(frame, 8 + 8 * i)
+}
+
+// Bytes in hexadecimal digits.
+#[derive(Clone, Copy)]
+struct Hexadecimal<'a>(&'a [u8]);
+
+impl Display for Hexadecimal<'_> {
+    fn fmt<W: fmt::Write>(&self, f: &mut Formatter<W>) -> fmt::Result {
+        for b in self.0 {
+            write!(f, "{b:02x}")?;
+        }
+        Ok(())
+    }
+}
 
 // A print that fails is passed over, here and below.
 fn print_number(rt: &impl Print, n: u64) {
-    let _ = rt.print(" ");
-    let _ = rt.print(n);
-}
-
-fn print_byte(rt: &impl Print, b: u8) {
-    let _ = print!(rt; "{b:02x}");
-}
-
-fn print_hexadecimal(rt: &impl Print, s: &[u8]) {
-    for b in s {
-        print_byte(rt, *b);
-    }
+    let _ = print!(rt; " {n}");
 }
 
 fn print_bytes(rt: &impl Print, s: &[u8]) {
-    if s.len() > 0 {
-        let _ = rt.print(" ");
-        print_hexadecimal(rt, s);
-    }
-}
-
-fn print_numbers(rt: &impl Print, s: &[u64; FIELDS]) {
-    for n in s.iter() {
-        print_number(rt, *n);
+    if !s.is_empty() {
+        let _ = print!(rt; " {}", Hexadecimal(s));
     }
 }
 
 fn print_event(rt: &impl Print, e: Event) {
-    print_number(rt, e.kind as u64);
-    print_number(rt, e.sender as u64);
-    print_number(rt, e.other as u64);
-    print_number(rt, e.mark as u64);
-    print_number(rt, e.cause as u64);
-    print_number(rt, e.tn.0);
-    print_number(rt, e.lrn.0);
-    print_number(rt, e.version as u64);
-    print_number(rt, e.time as u64);
-    print_number(rt, e.due as u64);
-    print_number(rt, e.within as u64);
+    let _ = print!(rt;
+        " {} {} {} {} {} {} {} {} {} {} {}",
+        e.kind,
+        e.sender,
+        e.other,
+        e.mark,
+        e.cause,
+        e.tn.0,
+        e.lrn.0,
+        e.version,
+        e.time,
+        e.due,
+        e.within
+    );
+}
+
+// The number of what a call of `record` says.
+fn number(said: Result<(), Malformed>) -> u64 {
+    match said {
+        Ok(()) => 0,
+        Err(Malformed) => 2,
+    }
 }
 
 // What the bytes read as, and what writing the fields back says and leaves.
 fn read_case(rt: &impl Print, s: &[u8]) {
     let got = record::read(s);
     match got {
-        Reading::Record(e) => {
+        Ok(e) => {
             print_number(rt, 0);
             print_event(rt, e);
             let mut back = [0u8; RECORD];
             let said = record::write(e, &mut back);
-            print_number(rt, said as u64);
+            print_number(rt, number(said));
             print_bytes(rt, &back);
         }
-        Reading::Malformed => print_number(rt, 2),
+        Err(Malformed) => print_number(rt, 2),
     }
 }
 
-fn field(frame: &[u8; 96], at: usize) -> u64 {
-    if at > 88 {
-        return 0;
-    }
-    octets::u64_at(frame, at)
-}
-
-fn event_in(frame: &[u8; 96]) -> Event {
-    let tn = Tn(field(frame, 48));
-    let lrn = Lrn(field(frame, 56));
+fn event_in(frame: &Frame) -> Event {
+    let tn = Tn(field(frame, 5));
+    let lrn = Lrn(field(frame, 6));
     Event {
-        kind: (field(frame, 8) % 256) as u8,
-        sender: (field(frame, 16) % 256) as u8,
-        other: (field(frame, 24) % 256) as u8,
-        mark: (field(frame, 32) % 256) as u8,
-        cause: (field(frame, 40) % 256) as u8,
+        kind: (field(frame, 0) % 256) as u8,
+        sender: (field(frame, 1) % 256) as u8,
+        other: (field(frame, 2) % 256) as u8,
+        mark: (field(frame, 3) % 256) as u8,
+        cause: (field(frame, 4) % 256) as u8,
         tn,
         lrn,
-        version: (field(frame, 64) % 65536) as u16,
-        time: (field(frame, 72) % 4294967296) as u32,
-        due: (field(frame, 80) % 4294967296) as u32,
-        within: (field(frame, 88) % 256) as u8,
+        version: (field(frame, 7) % 65536) as u16,
+        time: (field(frame, 8) % 4294967296) as u32,
+        due: (field(frame, 9) % 4294967296) as u32,
+        within: (field(frame, 10) % 256) as u8,
     }
 }
 
 // What writing the fields says, and leaves.
-fn write_case(rt: &impl Print, frame: &[u8; 96], out: &mut [u8]) {
+fn write_case(rt: &impl Print, frame: &Frame, out: &mut [u8]) {
     let said = record::write(event_in(frame), out);
-    print_number(rt, said as u64);
+    print_number(rt, number(said));
     print_bytes(rt, out);
 }
 
 // The same by the calls for C, and what reading the bytes back says and hands over.
-fn number_case(rt: &impl Print, frame: &[u8; 96], out: &mut [u8]) {
+fn number_case(rt: &impl Print, frame: &Frame, out: &mut [u8]) {
     let said = fields::write(
+        field(frame, 0),
+        field(frame, 1),
+        field(frame, 2),
+        field(frame, 3),
+        field(frame, 4),
+        field(frame, 5),
+        field(frame, 6),
+        field(frame, 7),
         field(frame, 8),
-        field(frame, 16),
-        field(frame, 24),
-        field(frame, 32),
-        field(frame, 40),
-        field(frame, 48),
-        field(frame, 56),
-        field(frame, 64),
-        field(frame, 72),
-        field(frame, 80),
-        field(frame, 88),
+        field(frame, 9),
+        field(frame, 10),
         out,
     );
     print_number(rt, said as u64);
@@ -125,26 +139,21 @@ fn number_case(rt: &impl Print, frame: &[u8; 96], out: &mut [u8]) {
 fn read_back(rt: &impl Print, s: &[u8]) {
     let mut fields = [0u64; FIELDS];
     print_number(rt, fields::read(s, &mut fields) as u64);
-    print_numbers(rt, &fields);
+    for n in fields.iter() {
+        print_number(rt, *n);
+    }
 }
 
-fn wide(b: u8) -> usize {
-    b as usize
-}
-
-fn case(rt: &impl Print, frame: &[u8; 96]) {
-    let n = wide(frame[1]);
+fn case(rt: &impl Print, frame: &Frame) {
+    let n = usize::from(frame[1]);
     if n > 56 {
         return;
     }
     let mut out = [0xa5u8; 56];
-    let letter = frame[0];
-    match letter {
+    match frame[0] {
         b'R' => {
             let _ = rt.print(" R");
-            let whole: &[u8] = frame;
-            let end = 8 + n;
-            read_case(rt, &whole[8..end]);
+            read_case(rt, &frame[8..8 + n]);
         }
         b'W' => {
             let _ = rt.print(" W");
@@ -157,35 +166,21 @@ fn case(rt: &impl Print, frame: &[u8; 96]) {
     }
 }
 
-// Reads until the buffer is full, the input ends or a read fails: how many bytes stand at the buffer's start.
-fn read_full(input: &mut impl Read, buf: &mut [u8]) -> usize
-    ensures { result ≤ length buf.new }
-{
-    let mut done: usize = 0;
-    while done < buf.len() {
-        let n = input.read(&mut buf[done..]).unwrap_or(0);
-        if n == 0 {
-            return done;
-        }
-        done += n;
-    }
-    done
-}
-
-fn one(rt: &impl Print, input: &mut impl Read, place: u64) -> bool {
-    let mut frame = [0u8; 96];
-    if read_full(input, &mut frame) != 96 {
-        return false;
+// A line for the next case, with its place; none where the input ends before it does.
+fn one(rt: &impl Print, input: &mut impl Read, place: u64) -> Option<()> {
+    let mut frame = [0u8; FRAME];
+    if fill(input, &mut frame) < FRAME {
+        return None;
     }
     let _ = rt.print(place);
     case(rt, &frame);
-    rt.print("\n").is_ok()
+    rt.print("\n").ok()
 }
 
 fn main(rt: HostRuntime) {
     let mut input = rt.stdin();
     for place in 1..1_000_000u64 {
-        if !one(&rt, &mut input, place) {
+        if one(&rt, &mut input, place).is_none() {
             return;
         }
     }

@@ -2,20 +2,22 @@
 // Thin over the engine: all that decides is `batch::run`, which is `engine::step` again and again.
 #![tactic(auto)]
 
+mod arguments;
 mod events;
 mod files;
-mod names;
 mod parts;
 mod summary;
 
 ghost use Rattle.std.specs.Prelude.{◌≡◌, length};
 
+use arguments::Argument;
 use books::BOOK_BYTES;
-use events::Streams;
+use events::{Lent, Streams};
+use files::{BOOKS_LONGER, PROVIDERS_LONGER, TABLE_LONGER};
 use model::limit;
-use names::{BOOKS, CHECK, EVENTS, PROVIDERS, REPLAY, REPLAY_FROM, RETRIES, TABLE};
 use parts::Outputs;
-use scan::Soundness;
+use program::{Program, Told};
+use summary::Tally;
 use words::ROW;
 
 // Providers at most, and so bytes of a provider list.
@@ -23,135 +25,139 @@ const MOST_PROVIDERS: usize = limit::PROVIDERS as usize;
 // Bytes of the largest table.
 const TABLE_BYTES: usize = limit::ROWS * ROW;
 
-// R, or more than 7 where the argument is none.
-fn retries(rt: &HostRuntime) -> u8 {
-    let mut digit = [0u8; 1];
-    let n = names::name(rt, RETRIES, &mut digit);
-    if n != 1 {
-        return 255;
-    }
-    decimal::digit(digit[0])
+// What is asked for: a replay, from an event's place on, or a check.
+#[derive(Clone, Copy, PartialEq, Eq)]
+enum Call {
+    Replay,
+    ReplayFrom,
+    Check,
 }
 
-// Whether the table's rows are sound; if not, says so.
-fn table_fits(rt: &HostRuntime, table: &[u8]) -> bool {
-    if table.len() % ROW != 0 {
-        names::say_of(rt, TABLE, b"the table is not whole rows of 80 bytes");
-        return false;
+impl Call {
+    // By how many arguments there are, and the first of them; none where the options are others.
+    fn of(program: Program<'_>) -> Option<Call> {
+        let first = program.named(1);
+        let word = first.as_bytes();
+        if program.has_just(8) {
+            Some(Call::Replay)
+        } else if program.has_just(10) && word == b"--from".as_slice() {
+            Some(Call::ReplayFrom)
+        } else if program.has_just(4) && word == b"--check".as_slice() {
+            Some(Call::Check)
+        } else {
+            None
+        }
     }
-    let verdict = scan::verdict(table);
-    match verdict {
-        Soundness::Sound { used } => true,
-        Soundness::Unsound => {
-            names::say_of(rt, TABLE, b"the table is unsound: inspect says where");
-            false
+
+    // How many words stand before TABLE.
+    fn options(self) -> usize {
+        match self {
+            Call::Replay => 0,
+            Call::ReplayFrom => 2,
+            Call::Check => 1,
         }
     }
 }
 
-// Whether provider list and books are sound; if not, says so.
-fn books_fit(rt: &HostRuntime, providers: &[u8], books: &[u8]) -> bool {
-    let l = providers::marks_of_bytes(providers);
-    if !l.sound {
-        names::say_of(
-            rt,
-            PROVIDERS,
-            b"the provider list is unsound: inspect says where",
-        );
-        return false;
+// R.
+fn retries(program: Program<'_>) -> Result<u8, Told> {
+    let name = arguments::name(program, Argument::Retries);
+    let text = name.as_bytes();
+    let digit = if text.len() == 1 {
+        decimal::digit(text[0])
+    } else {
+        None
+    };
+    match digit {
+        Some(most) if most <= limit::RETRIES => Ok(most),
+        _ => Err(program.say_of(Argument::Retries.place(), "R is not 0 to 7")),
     }
+}
+
+// The table's rows are sound; else an error, which is told.
+fn table_fits(program: Program<'_>, table: &[u8]) -> Result<(), Told> {
+    let place = Argument::Table.place();
+    if table.len() % ROW != 0 {
+        return Err(program.say_of(place, "the table is not whole rows of 80 bytes"));
+    }
+    if scan::verdict(table).is_none() {
+        return Err(program.say_of(place, "the table is unsound: inspect says where"));
+    }
+    Ok(())
+}
+
+// Provider list and books are.
+fn books_fit(program: Program<'_>, providers: &[u8], books: &[u8]) -> Result<(), Told> {
+    let place = Argument::Books.place();
+    let Some(marks) = providers::marks_of_bytes(providers) else {
+        return Err(program.say_of(
+            Argument::Providers.place(),
+            "the provider list is unsound: inspect says where",
+        ));
+    };
     if books.len() != BOOK_BYTES {
-        files::say_length(rt, BOOKS);
-        return false;
+        return Err(program.say_of(place, BOOKS_LONGER));
     }
-    let kept = soundbooks::sound(l.marks, books);
-    if !kept {
-        names::say_of(rt, BOOKS, b"the books are unsound: inspect says where");
+    if !soundbooks::sound(marks, books) {
+        return Err(program.say_of(place, "the books are unsound: inspect says where"));
     }
-    kept
+    Ok(())
 }
 
-// Whether all three are sound, the table's lines too; if not, says so of each.
-fn all_fit(rt: &HostRuntime, table: &[u8], providers: &[u8], books: &[u8]) -> bool {
-    let rows = table_fits(rt, table);
-    let kept = books_fit(rt, providers, books);
-    if !(rows & kept) {
-        return false;
-    }
-    let checked = checks::table_check(table, providers, books);
+// All three are, the table's lines too; what is not is told of each.
+fn all_fit(program: Program<'_>, lent: &Lent<'_>) -> Result<(), Told> {
+    let rows = table_fits(program, lent.table);
+    let kept = books_fit(program, lent.providers, lent.books);
+    rows?;
+    kept?;
+    let checked = checks::table_check(lent.table, lent.providers, lent.books);
     if checked.outcome != 0 {
-        names::say_of(
-            rt,
-            TABLE,
-            b"the table is unsound with these books: inspect says where",
-        );
-        return false;
+        return Err(program.say_of(
+            Argument::Table.place(),
+            "the table is unsound with these books: inspect says where",
+        ));
     }
-    true
+    Ok(())
 }
 
-// How many rows a table has used, and of how many, in a text with a '#' for each.
-fn say_rows(rt: &HostRuntime, text: &[u8], table: &[u8]) {
-    let rows = (table.len() / ROW) as u64;
-    let verdict = scan::verdict(table);
-    match verdict {
-        Soundness::Sound { used } => names::put_with(rt, text, used as u64, rows),
-        Soundness::Unsound => {}
-    }
-}
-
-// The outputs get their names where all events up to the place behind the last are replayed, and a last line says so.
-fn finish(
-    rt: &HostRuntime,
-    from: u64,
-    behind: u64,
+// Where all events are replayed, all outputs are whole then, and what was done is told.
+fn settle(
+    program: Program<'_>,
+    done: Result<u64, Told>,
     o: Outputs,
-    tally: &[u64; summary::NUMBERS],
+    tally: &Tally,
     table: &[u8],
-) {
-    let well = behind > 0 && parts::all_settled(rt, o, table);
-    if well {
-        summary::say(rt, tally);
-        say_rows(rt, b"rows used: # of #\n", table);
+) -> Result<u64, Told> {
+    let behind = done?;
+    parts::settle_all(program, o, table)?;
+    tally.say(program);
+    if let Some(used) = scan::verdict(table) {
+        program.tell(format_args!("rows used: {used} of {}", table.len() / ROW));
     }
-    if parts::end_all(rt, well) {
-        names::put_with(rt, b"# events replayed\n", behind.wrapping_sub(from), 0);
-    }
+    Ok(behind)
 }
 
-// Replays from an event's place on.
-fn replay(rt: &HostRuntime, table: &mut [u8], providers: &[u8], books: &[u8], most: u8, from: u64) {
-    let Some(input) = files::open(rt, EVENTS) else {
-        return;
-    };
-    let whole = files::events_in(files::size(&input));
-    if !files::sought(rt, &input, from, whole) {
-        return;
-    }
-    let Some(o) = parts::make_all(rt) else {
-        return;
-    };
+// Replays from an event's place on. The outputs get their names where all events are replayed, and a last line says so.
+fn replay(program: Program<'_>, lent: &mut Lent<'_>, from: u64) -> Result<(), Told> {
+    let input = program.open(Argument::Events.place())?;
+    let whole = files::whole(&input);
+    files::seek(program, &input, from, whole)?;
+    let o = parts::make_all(program)?;
     let s = Streams {
         input: &input,
         whole,
         outcomes: &o.outcomes,
         messages: &o.messages,
     };
-    let mut tally = [0u64; summary::NUMBERS];
-    let behind = events::each(rt, from, s, table, providers, books, most, &mut tally);
-    finish(rt, from, behind, o, &tally, table);
-}
-
-// Checks what is lent to each event before any file is written, and replays from an event's place on; from 0, it checks alone.
-fn begin(rt: &HostRuntime, table: &mut [u8], providers: &[u8], books: &[u8], most: u8, from: u64) {
-    let sound = all_fit(rt, table, providers, books);
-    if !sound {
-        return;
-    }
-    if from == 0 {
-        say_rows(rt, b"# of # rows used, sound\n", table);
-    } else {
-        replay(rt, table, providers, books, most, from);
+    let mut tally = Tally::new();
+    let done = events::each(program, s, from, lent, &mut tally);
+    match settle(program, done, o, &tally, lent.table) {
+        Ok(behind) => {
+            parts::end_all(program, Ok(()))?;
+            program.tell(format_args!("{} events replayed", behind.wrapping_sub(from)));
+            Ok(())
+        }
+        Err(told) => parts::end_all(program, Err(told)),
     }
 }
 
@@ -162,94 +168,74 @@ fn free_rows() -> [u8; TABLE_BYTES]
     [0; TABLE_BYTES]
 }
 
-// Reads what is lent to each event, and goes on if all of it was read.
-fn run(rt: &HostRuntime, most: u8, from: u64) {
+// Reads what is lent to each event, checks it before any file is written, and replays from an event's place on, or checks alone.
+fn run(program: Program<'_>, most: u8, from: Option<u64>) -> Result<(), Told> {
     let mut table = free_rows();
     let mut providers = [0u8; MOST_PROVIDERS];
     let mut books = [0u8; BOOK_BYTES];
-    let t = files::load(rt, TABLE, &mut table);
-    let p = files::load(rt, PROVIDERS, &mut providers);
-    let b = files::load(rt, BOOKS, &mut books);
-    if t > TABLE_BYTES {
-        return;
-    }
-    if p > MOST_PROVIDERS {
-        return;
-    }
-    if b > BOOK_BYTES {
-        return;
-    }
-    begin(
-        rt,
-        &mut table[..t],
-        &providers[..p],
-        &books[..b],
-        most,
-        from,
+    let table = program.load(Argument::Table.place(), &mut table, TABLE_LONGER);
+    let providers = program.load(
+        Argument::Providers.place(),
+        &mut providers,
+        PROVIDERS_LONGER,
     );
+    let books = program.load(Argument::Books.place(), &mut books, BOOKS_LONGER);
+    let mut lent = Lent {
+        table: table?,
+        providers: providers?,
+        books: books?,
+        most,
+    };
+    all_fit(program, &lent)?;
+    match from {
+        Some(from) => replay(program, &mut lent, from),
+        None => {
+            if let Some(used) = scan::verdict(lent.table) {
+                program.tell(format_args!("{used} of {} rows used, sound", lent.table.len() / ROW));
+            }
+            Ok(())
+        }
+    }
 }
 
 // A replay, where R is one and the outputs are files of their own.
-fn run_from(rt: &HostRuntime, from: u64) {
-    let most = retries(rt);
-    if most > limit::RETRIES {
-        names::say_of(rt, RETRIES, b"R is not 0 to 7");
-        return;
-    }
-    if names::all_own(rt) {
-        run(rt, most, from);
-    }
-}
-
-// The first word.
-fn is_first(rt: &HostRuntime, word: &[u8]) -> bool {
-    let mut first = names::buffer();
-    let n = names::arg(rt, 1, &mut first);
-    &first[..n] == word
-}
-
-// Whether the options are those that so many arguments have, and none stands where TABLE does.
-fn understood(rt: &HostRuntime) -> bool {
-    let mut table = names::buffer();
-    let n = names::name(rt, TABLE, &mut table);
-    if n > 1 && table[0] == b'-' && table[1] == b'-' {
-        return false;
-    }
-    match names::arg_count(rt) {
-        REPLAY => true,
-        REPLAY_FROM => is_first(rt, b"--from"),
-        CHECK => is_first(rt, b"--check"),
-        _ => false,
-    }
-}
-
-// The place behind '--from'; 1 without it.
-fn from(rt: &HostRuntime) -> u64 {
-    if names::arg_count(rt) != REPLAY_FROM {
-        return 1;
-    }
-    let mut text = [0u8; 20];
-    let n = names::arg(rt, 2, &mut text);
-    decimal::number(&text[..n])
+fn run_from(program: Program<'_>, from: u64) -> Result<(), Told> {
+    let most = retries(program)?;
+    arguments::all_own(program)?;
+    run(program, most, Some(from))
 }
 
 fn main(rt: HostRuntime) {
-    if !understood(&rt) {
-        names::say(
-            &rt,
-            b"usage: replay [--from N] TABLE PROVIDERS BOOKS R EVENTS OUTCOMES MESSAGES TABLE-AFTER, \
-            or replay --check TABLE PROVIDERS BOOKS",
-        );
+    let plain = Program::new(rt, "replay", 0);
+    let Some(call) = Call::of(plain) else {
+        say_usage(plain);
+        return;
+    };
+    let program = Program::new(rt, "replay", call.options());
+    // No option stands where TABLE does.
+    if arguments::name(program, Argument::Table)
+        .as_bytes()
+        .starts_with(b"--".as_slice())
+    {
+        say_usage(plain);
         return;
     }
-    if names::arg_count(&rt) == CHECK {
-        run(&rt, 0, 0);
-        return;
-    }
-    let place = from(&rt);
-    if place == 0 {
-        names::say(&rt, b"N is no place: the first event is at 1");
-        return;
-    }
-    run_from(&rt, place);
+    // The place behind '--from'; 1 without it.
+    let from = match call {
+        Call::Replay => Some(1),
+        Call::ReplayFrom => decimal::number(plain.named(2).as_bytes()),
+        Call::Check => None,
+    };
+    let _ = match (call, from) {
+        (Call::Check, _) => run(program, 0, None),
+        (_, Some(from)) => run_from(program, from),
+        (_, None) => Err(plain.say("N is no place: the first event is at 1")),
+    };
+}
+
+fn say_usage(program: Program<'_>) {
+    program.say(
+        "usage: replay [--from N] TABLE PROVIDERS BOOKS R EVENTS OUTCOMES MESSAGES TABLE-AFTER, \
+        or replay --check TABLE PROVIDERS BOOKS",
+    );
 }

@@ -1,7 +1,9 @@
 // The outputs. Each is written to a part beside its name and gets its name when all of them are whole: OUTCOMES, MESSAGES, and last
 // TABLE-AFTER. Until then, and after any failure, the files of before stand. '-' for OUTCOMES is standard output and has no part.
-use crate::names;
-use crate::names::{AFTER, MESSAGES, OUTCOMES};
+use crate::arguments;
+use crate::arguments::{Argument, part};
+use program::{Name, Program, Told, Why};
+use std::fmt::Display;
 use std::fs::{File, OpenOptions};
 use std::io::{ErrorKind, Print, Stdout, Write};
 use std::os::fd::AsRawFd;
@@ -28,97 +30,97 @@ pub struct Outputs {
     pub after: Output,
 }
 
-// Writes all of the bytes.
-pub fn put(out: &Output, bytes: &[u8]) -> io::Result<()> {
-    match out {
-        Output::Stream(stdout) => Print::write_all(stdout, bytes),
-        Output::Part(file) => {
-            let mut to: &File = file;
-            Write::write_all(&mut to, bytes)
+impl Output {
+    // Writes all of the bytes.
+    pub fn put(&self, bytes: &[u8]) -> io::Result<()> {
+        match self {
+            Output::Stream(stdout) => Print::write_all(stdout, bytes),
+            Output::Part(file) => {
+                let mut to: &File = file;
+                Write::write_all(&mut to, bytes)
+            }
         }
     }
-}
 
-// Writes a number in decimal.
-pub fn put_number(out: &Output, n: u64) -> io::Result<()> {
-    match out {
-        Output::Stream(stdout) => stdout.print(n),
-        Output::Part(file) => {
-            let mut to: &File = file;
-            write!(to, "{n}")
+    // Writes a line.
+    pub fn put_line<D: Display + Drop>(&self, text: D) -> io::Result<()> {
+        match self {
+            Output::Stream(stdout) => stdout.println(text),
+            Output::Part(file) => {
+                let mut to: &File = file;
+                to.writeln(text)
+            }
         }
     }
 }
 
 // A part could not be made: why.
-fn say_unmade(rt: &HostRuntime, part: &[u8], why: io::Error) {
+fn say_unmade(program: Program<'_>, part: &Name, why: io::Error) -> Told {
     if why.kind() == ErrorKind::AlreadyExists {
-        names::put(rt, b"replay: ");
-        names::put(rt, part);
-        names::put(
-            rt,
-            b": is there: another replay runs, or one was killed and it may be removed\n",
-        );
+        program.say_named(
+            part.as_bytes(),
+            "is there: another replay runs, or one was killed and it may be removed",
+        )
     } else {
-        names::fail(rt, part, why);
+        program.say_named(part.as_bytes(), Why::of(why))
     }
 }
 
 // A file that is made anew.
-fn made(rt: &HostRuntime, part: &[u8]) -> io::Result<File> {
-    let part = names::text(part)?;
+fn made(rt: &HostRuntime, part: &Name) -> io::Result<File> {
     OpenOptions::new()
         .write(true)
         .create_new(true)
-        .open(rt, part)
+        .open(rt, part.text()?)
 }
 
-fn remove(rt: &HostRuntime, part: &[u8]) {
-    if let Ok(part) = names::text(part) {
+fn remove(rt: &HostRuntime, part: &Name) {
+    if let Ok(part) = part.text() {
         let _ = fs::remove_file(rt, part);
     }
 }
 
-// Makes an output's part; none where it cannot be had, and says why. A descriptor up to standard error's is for no file.
-fn make(rt: &HostRuntime, place: usize) -> Option<Output> {
-    let mut part = names::buffer();
-    let n = names::part(rt, place, &mut part);
-    match made(rt, &part[..n]) {
-        Ok(file) if file.as_raw_fd() > STDERR => Some(Output::Part(file)),
+// Makes an output's part. A descriptor up to standard error's is for no file.
+fn make(program: Program<'_>, output: Argument) -> Result<Output, Told> {
+    let part = part(program, output);
+    match made(&program.rt, &part) {
+        Ok(file) if file.as_raw_fd() > STDERR => Ok(Output::Part(file)),
         Ok(_) => {
-            remove(rt, &part[..n]);
-            names::say(rt, b"standard input, output or error is closed");
-            None
+            remove(&program.rt, &part);
+            Err(program.say("standard input, output or error is closed"))
         }
-        Err(why) => {
-            say_unmade(rt, &part[..n], why);
-            None
-        }
+        Err(why) => Err(say_unmade(program, &part, why)),
     }
 }
 
 // Makes the part of OUTCOMES, where that is not standard output.
-fn make_first(rt: &HostRuntime) -> Option<Output> {
-    if names::is_stream(rt) {
-        Some(Output::Stream(rt.stdout()))
+fn make_first(program: Program<'_>) -> Result<Output, Told> {
+    if arguments::is_stream(program) {
+        Ok(Output::Stream(program.rt.stdout()))
     } else {
-        make(rt, OUTCOMES)
+        make(program, Argument::Outcomes)
     }
 }
 
 // Makes the parts, in this order, up to the first that cannot be made; none is left then.
-pub fn make_all(rt: &HostRuntime) -> Option<Outputs> {
-    let outcomes = make_first(rt)?;
-    let Some(messages) = make(rt, MESSAGES) else {
-        end_first(rt, false);
-        return None;
+pub fn make_all(program: Program<'_>) -> Result<Outputs, Told> {
+    let outcomes = make_first(program)?;
+    let messages = match make(program, Argument::Messages) {
+        Ok(messages) => messages,
+        Err(told) => {
+            let _ = end_first(program, Err(told));
+            return Err(told);
+        }
     };
-    let Some(after) = make(rt, AFTER) else {
-        end_first(rt, false);
-        end(rt, MESSAGES, false);
-        return None;
+    let after = match make(program, Argument::After) {
+        Ok(after) => after,
+        Err(told) => {
+            let _ = end_first(program, Err(told));
+            let _ = end(program, Argument::Messages, Err(told));
+            return Err(told);
+        }
     };
-    Some(Outputs {
+    Ok(Outputs {
         outcomes,
         messages,
         after,
@@ -145,70 +147,66 @@ fn sync(rt: &HostRuntime, out: Output) -> io::Result<()> {
     }
 }
 
-// Whether it is; if not, says why.
-fn settled(rt: &HostRuntime, out: Output, place: usize) -> bool {
-    match sync(rt, out) {
-        Ok(()) => true,
-        Err(why) => {
-            names::fail_of(rt, place, why);
-            false
-        }
+// The same; where it is not, it is told why.
+fn settle(program: Program<'_>, out: Output, output: Argument) -> Result<(), Told> {
+    match sync(&program.rt, out) {
+        Ok(()) => Ok(()),
+        Err(why) => Err(arguments::fail(program, output, why)),
     }
 }
 
-// Writes the table, and whether all outputs are whole then; if not, says why.
-pub fn all_settled(rt: &HostRuntime, o: Outputs, table: &[u8]) -> bool {
+// Writes the table, and all outputs are whole then.
+pub fn settle_all(program: Program<'_>, o: Outputs, table: &[u8]) -> Result<(), Told> {
     let Outputs {
         outcomes,
         messages,
         after,
     } = o;
-    if let Err(why) = put(&after, table) {
-        names::fail_of(rt, AFTER, why);
-        return false;
+    if let Err(why) = after.put(table) {
+        return Err(arguments::fail(program, Argument::After, why));
     }
-    settled(rt, outcomes, OUTCOMES) && settled(rt, messages, MESSAGES) && settled(rt, after, AFTER)
+    settle(program, outcomes, Argument::Outcomes)?;
+    settle(program, messages, Argument::Messages)?;
+    settle(program, after, Argument::After)
 }
 
 // Gives a part its output's name.
-fn rename(rt: &HostRuntime, part: &[u8], path: &[u8]) -> io::Result<()> {
-    fs::rename(rt, names::text(part)?, names::text(path)?)
+fn rename(rt: &HostRuntime, part: &Name, path: &Name) -> io::Result<()> {
+    fs::rename(rt, part.text()?, path.text()?)
 }
 
-fn renamed(rt: &HostRuntime, part: &[u8], place: usize) -> bool {
-    let mut path = names::buffer();
-    let n = names::name(rt, place, &mut path);
-    match rename(rt, part, &path[..n]) {
-        Ok(()) => true,
-        Err(why) => {
-            names::fail_of(rt, place, why);
-            false
-        }
+fn renamed(program: Program<'_>, part: &Name, output: Argument) -> Result<(), Told> {
+    let path = arguments::name(program, output);
+    match rename(&program.rt, part, &path) {
+        Ok(()) => Ok(()),
+        Err(why) => Err(arguments::fail(program, output, why)),
     }
 }
 
 // A part gets its name where all is well so far, else it is removed. Whether all is well still.
-fn end(rt: &HostRuntime, place: usize, well: bool) -> bool {
-    let mut part = names::buffer();
-    let n = names::part(rt, place, &mut part);
-    if well && renamed(rt, &part[..n], place) {
-        return true;
+fn end(program: Program<'_>, output: Argument, so_far: Result<(), Told>) -> Result<(), Told> {
+    let part = part(program, output);
+    let still = match so_far {
+        Ok(()) => renamed(program, &part, output),
+        Err(told) => Err(told),
+    };
+    if still.is_err() {
+        remove(&program.rt, &part);
     }
-    remove(rt, &part[..n]);
-    false
+    still
 }
 
 // The same of OUTCOMES, which has no part where it is standard output.
-fn end_first(rt: &HostRuntime, well: bool) -> bool {
-    if names::is_stream(rt) {
-        return well;
+fn end_first(program: Program<'_>, so_far: Result<(), Told>) -> Result<(), Told> {
+    if arguments::is_stream(program) {
+        return so_far;
     }
-    end(rt, OUTCOMES, well)
+    end(program, Argument::Outcomes, so_far)
 }
 
 // Ends all parts, in this order.
-pub fn end_all(rt: &HostRuntime, well: bool) -> bool {
-    let first = end_first(rt, well);
-    let second = end(rt, MESSAGES, first);
-    end(rt, AFTER, second)
+pub fn end_all(program: Program<'_>, so_far: Result<(), Told>) -> Result<(), Told> {
+    let first = end_first(program, so_far);
+    let second = end(program, Argument::Messages, first);
+    end(program, Argument::After, second)
 }

@@ -1,82 +1,67 @@
 // How many events had each outcome, and that in words.
-use crate::{events, names};
+use program::Program;
+use std::fmt;
+use std::fmt::{Display, Formatter};
 
 // Outcomes are below this number; those between that no event has are never counted.
-pub const NUMBERS: usize = 19;
+const NUMBERS: usize = 19;
 
-const MOST: u64 = 18_446_744_073_709_551_615;
+// How many events had each outcome, by its number.
+#[derive(Clone, Copy)]
+pub struct Tally {
+    counts: [u64; NUMBERS],
+}
 
-// One more event with that outcome.
-pub fn count(tally: &mut [u64; NUMBERS], outcome: u64) {
-    if outcome >= NUMBERS as u64 {
-        return;
+// An outcome by its number, in document 01's words.
+#[derive(Clone, Copy)]
+struct Words(usize);
+
+impl Display for Words {
+    fn fmt<W: fmt::Write>(&self, f: &mut Formatter<W>) -> fmt::Result {
+        f.write_str(match self.0 {
+            0 => "done",
+            1 => "table or books unsound, R above 7, or a tray below 64 whole places",
+            2 => "record not 24 bytes or malformed",
+            3 => "sender or other is not 0 and not present",
+            4 => "a create for a code not listed",
+            5 => "that TN and version not in the table",
+            6 => "sender lacks the standing",
+            7 => "status does not allow it",
+            8 => "too early",
+            9 => "a worked version that this create does not fit",
+            10 => "number busy",
+            11 => "not awaited",
+            12 => "the old side is not the current provider",
+            13 => "a fresh version and no free row",
+            14 => "a fresh version and number 65,535 is used",
+            18 => "a concurring create with another due date than the first",
+            _ => "no outcome",
+        })
     }
-    let i = outcome as usize;
-    let n = tally[i];
-    if n < MOST {
-        tally[i] = n + 1;
+}
+
+impl Tally {
+    pub fn new() -> Tally {
+        Tally {
+            counts: [0; NUMBERS],
+        }
     }
-}
 
-// The outcome of the i-th event of a run, in the first of two bytes.
-fn outcome_at(answers: &[u8], i: usize) -> u64 {
-    if i >= answers.len() / 2 {
-        return 0;
+    // One more event with that outcome.
+    pub fn count(&mut self, outcome: u64) {
+        let i = outcome as usize;
+        if i < NUMBERS {
+            self.counts[i] = self.counts[i].saturating_add(1);
+        }
     }
-    events::wide(answers[2 * i])
-}
 
-// The events of a run.
-pub fn count_run(tally: &mut [u64; NUMBERS], answers: &[u8], events: usize) {
-    for i in 0..events {
-        count(tally, outcome_at(answers, i));
-    }
-}
-
-// Document 01's words for an outcome.
-fn put_words(rt: &HostRuntime, outcome: usize) {
-    names::put_line(
-        rt,
-        b"done\n\
-        table or books unsound, R above 7, or a tray below 64 whole places\n\
-        record not 24 bytes or malformed\n\
-        sender or other is not 0 and not present\n\
-        a create for a code not listed\n\
-        that TN and version not in the table\n\
-        sender lacks the standing\n\
-        status does not allow it\n\
-        too early\n\
-        a worked version that this create does not fit\n\
-        number busy\n\
-        not awaited\n\
-        the old side is not the current provider\n\
-        a fresh version and no free row\n\
-        a fresh version and number 65,535 is used\n\
-        no outcome\n\
-        no outcome\n\
-        no outcome\n\
-        a concurring create with another due date than the first\n",
-        outcome,
-    );
-}
-
-fn say_refused(rt: &HostRuntime, outcome: usize, n: u64) {
-    if n == 0 {
-        return;
-    }
-    names::put_with(rt, b"refused # with #: ", n, outcome as u64);
-    put_words(rt, outcome);
-    names::put(rt, b"\n");
-}
-
-fn counted(tally: &[u64; NUMBERS], outcome: usize) -> u64 {
-    if outcome < NUMBERS { tally[outcome] } else { 0 }
-}
-
-// How many were done, and a line for each number that an event was refused with.
-pub fn say(rt: &HostRuntime, tally: &[u64; NUMBERS]) {
-    names::put_with(rt, b"done #\n", counted(tally, 0), 0);
-    for outcome in 1..NUMBERS {
-        say_refused(rt, outcome, counted(tally, outcome));
+    // How many were done, and a line for each number that an event was refused with.
+    pub fn say(&self, program: Program<'_>) {
+        program.tell(format_args!("done {}", self.counts[0]));
+        for (outcome, n) in self.counts.iter().enumerate().skip(1) {
+            if *n > 0 {
+                program.tell(format_args!("refused {n} with {outcome}: {}", Words(outcome)));
+            }
+        }
     }
 }

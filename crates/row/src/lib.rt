@@ -3,7 +3,7 @@
 
 ghost use Rattle.std.specs.Prelude.{◌≡◌, [], ◌∷◌, ◌<◌};
 ghost use Rattle.octets.specs.Fields.{join};
-ghost use Rattle.row.specs.Layout.{head_widths, term_widths, pair_widths, flag, id_of, new_of, old_of, cast_of, version_of, spareless};
+ghost use Rattle.row.specs.Layout.{head_widths, term_widths, pair_widths, id_of, new_of, old_of, cast_of, version_of, spareless};
 ghost use Rattle.row.specs.Layout.{head_fields, term_fields, words_of, InBits};
 
 use model::{Broadcast, Id, Lrn, NewSide, OldSide, Retries, Tn, Version};
@@ -44,65 +44,56 @@ fn old_of(w: Words) -> OldSide
 fn cast_of(w: Words) -> Broadcast
     ensures { result ≡ cast_of w }
 {
-    let retries = Retries {
-        low: w.low,
-        mid: w.mid,
-        high: w.high,
-    };
     Broadcast {
         purpose: ((w.terms >> 5) % 4) as u8,
         start: ((w.times >> 0) % 4294967296) as u32,
         confirmed: w.confirmed,
         waiting: w.waiting,
         failed: w.failed,
-        retries,
+        retries: Retries {
+            low: w.low,
+            mid: w.mid,
+            high: w.high,
+        },
     }
 }
 
 // The version that the words say, whatever they are.
+#[tactic(auto, unfolding(crate::specs::Layout::version_of))]
 pub fn version_of(w: Words) -> Version
     ensures { result ≡ version_of w }
 {
-    let id = id_of(w);
-    let new = new_of(w);
-    let old = old_of(w);
-    let cast = cast_of(w);
     Version {
-        id,
+        id: id_of(w),
         status: ((w.head >> 10) % 16) as u8,
         stamp: ((w.times >> 32) % 4294967296) as u32,
         live: (w.head >> 9) % 2 == 1,
-        new,
-        old,
+        new: new_of(w),
+        old: old_of(w),
         canceller: ((w.terms >> 7) % 4) as u8,
         window: (w.head >> 6) % 2 == 1,
         within: (w.head >> 5) % 2 == 1,
-        cast,
+        cast: cast_of(w),
     }
 }
 
 // Whether the spare bits are zero.
+#[tactic(auto, unfolding(crate::specs::Layout::spareless))]
 pub fn spare_free(w: Words) -> bool
     ensures { result ≡ spareless w }
 {
     ((w.head >> 0) % 32 == 0) & ((w.terms >> 0) % 32 == 0)
 }
 
-fn bit(b: bool) -> u64
-    ensures { (result ≡ flag b) × (result < 2) }
-{
-    if b { 1 } else { 0 }
-}
-
 fn head_of(v: Version) -> u64
     requires { InBits v }
     ensures { result ≡ join head_widths (head_fields v) }
 {
-    let live = bit(v.live);
-    let new = bit(v.new.created);
-    let old = bit(v.old.created);
-    let window = bit(v.window);
-    let within = bit(v.within);
+    let live = u64::from(v.live);
+    let new = u64::from(v.new.created);
+    let old = u64::from(v.old.created);
+    let window = u64::from(v.window);
+    let within = u64::from(v.within);
     let marks = (((live * 2 + new) * 2 + old) * 2 + window) * 2 + within;
     let id = v.id.tn.0 * 65536 + v.id.number as u64;
     ((id * 16 + v.status as u64) * 32 + marks) * 32
@@ -125,19 +116,16 @@ fn pair_of(a: u32, b: u32) -> u64
 }
 
 // The words of a version whose fields have room in their bits.
+#[tactic(auto, unfolding(crate::specs::Layout::words_of))]
 pub fn words_of(v: Version) -> Words
     requires { InBits v }
     ensures { result ≡ words_of v }
 {
-    let head = head_of(v);
-    let terms = terms_of(v);
-    let dues = pair_of(v.new.due, v.old.due);
-    let times = pair_of(v.stamp, v.cast.start);
     Words {
-        head,
-        terms,
-        dues,
-        times,
+        head: head_of(v),
+        terms: terms_of(v),
+        dues: pair_of(v.new.due, v.old.due),
+        times: pair_of(v.stamp, v.cast.start),
         confirmed: v.cast.confirmed,
         waiting: v.cast.waiting,
         failed: v.cast.failed,

@@ -58,28 +58,20 @@ pub fn store_two(t: &mut [u8], i: usize, v: Version, j: usize, w: Version)
     store(t, j, w);
 }
 
-// Moves the bytes from a up to, not including, e by one row towards the end, the last first.
+// Moves the bytes from a up to, not including, e by one row towards the end.
 fn move_down(t: &mut [u8], a: usize, e: usize)
     requires { (a ≤ e) × (e + ROW ≤ length t.old) }
     ensures { t.new ≡ moved_down t.old a e }
 {
-    let mut j = e;
-    while a < j {
-        j -= 1;
-        t[j + ROW] = t[j];
-    }
+    t.copy_within(a..e, a + ROW);
 }
 
-// Moves the bytes from a + ROW up to, not including, e + ROW by one row towards the start, the first first.
+// Moves the bytes from a + ROW up to, not including, e + ROW by one row towards the start.
 fn move_up(t: &mut [u8], a: usize, e: usize)
     requires { (a ≤ e) × (e + ROW ≤ length t.old) }
     ensures { t.new ≡ moved_up t.old a e }
 {
-    let mut j = a;
-    while j < e {
-        t[j] = t[j + ROW];
-        j += 1;
-    }
+    t.copy_within(a + ROW..e + ROW, a);
 }
 
 // Puts v in before row i of the n used ones; row n, a free one, is used up.

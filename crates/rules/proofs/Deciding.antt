@@ -3,19 +3,20 @@
 use mathlib.Core.Path.{◌≡◌, refl, sym, ap, ◌∙◌, subst}
 use Prim.Native.Nat.{ℕ, ◌+◌, ◌^◌, ◌<◌, ◌≤◌}
 use native.Mathlib.Omega.{arith}
-use mathlib.Core.Bool.{Bool, true, false, not, ◌&&◌, ◌||◌}
+use mathlib.Core.Bool.{Bool, true, false, cond, not, ◌&&◌, ◌||◌}
 use mathlib.Core.Option.{none}
 use mathlib.Core.List.{List, [], ◌∷◌}
 use lib.Dec.{eqb, ltb, leb}
 use lib.ListN.{get_or}
 use borrow.Author.Tests.{eqb-true, leb-true, leb-false, le-leb, ltb-true, not-false}
+use Rattle.std.specs.Prelude.{Option, Some, None, Result, Ok, Err}
 use Rattle.systems.specs.Set.{member}
 use Rattle.model.specs.Books.{Books}
 use Rattle.model.specs.Kinds as kind
 use Rattle.model.specs.Record.{is_plain, is_create, is_answer, well_formed, kind_fits}
 use Rattle.model.specs.Sound.{apart, sets_apart, retries_in_range, last_status}
 use Rattle.model.specs.Standing.{is_grid_kind}
-use Rattle.model.specs.Outcomes.{is_done, number_of, judge, order_of, create_order, answer_order}
+use Rattle.model.specs.Outcomes.{is_done, judge, order_of, create_order, answer_order}
 use Rattle.model.specs.Given.{with_number, besides, found}
 use Rattle.model.specs.Answers.{answering, awaited, answers}
 use Rattle.model.specs.Refusals.{refuses, before_start}
@@ -28,10 +29,9 @@ use Rattle.answers.specs.Waits.{Waits}
 use Rattle.table.specs.Survey.{Found, Stands, the_one}
 use Rattle.table.proofs.Surveys.{worked_of, asked_of}
 use Rattle.table.specs.declared.survey.Facts.{Facts}
-use Rattle.table.specs.declared.survey.Seen.{Seen}
-use Rattle.table.specs.declared.survey.Seen.TheVariants.{Nobody, One}
-use Rattle.judge.specs.Judged.{test_of, create_tests, create_for, unknown_by, answer_for, other_for}
-use Rattle.model.proofs.Outcomes.{zero_done, other_refused, refusal_passed}
+use Rattle.table.specs.declared.survey.Placed.{Placed}
+use Rattle.judge.specs.Judged.{go_on, test_of, create_tests, create_for, unknown_by, answer_for, other_for}
+use Rattle.model.proofs.Outcomes.{refusal_passed}
 use Rattle.judge.proofs.Judging.{create_judged, unknown_judged, answer_judged, other_judged}
 use Rattle.verdict.specs.declared.Verdict.{Verdict}
 use Rattle.rules.specs.Rules.{Holds, Says, Settles, Manages, Creates, given_by, Facing, Decides, refused_by}
@@ -43,6 +43,33 @@ use Rattle.model.specs.declared.Outcome.TheVariants.{Unawaited, Full, Exhausted}
 
 -- ---- refused, or accepted
 
+-- an outcome went on, or refused with itself
+abbrev goes_on : Result Unit Outcome → Bool
+goes_on (Ok u) = true
+goes_on (Err x) = false
+
+abbrev refusal : Outcome → Result Unit Outcome → Outcome
+refusal o (Ok u) = o
+refusal o (Err x) = x
+
+pub done_by : (o : Outcome) (r : Result Unit Outcome) (u : Unit) → r ≡ go_on o → r ≡ Ok u → is_done o ≡ true
+done_by o r u q z = go (is_done o) (ap goes_on (sym z ∙ q))
+  where
+    go : (b : Bool) → true ≡ goes_on (cond b (Ok tt) (Err o)) → b ≡ true
+    go true p = refl
+    go false p = sym p
+
+stopped : (o : Outcome) (r : Result Unit Outcome) (x : Outcome) → r ≡ go_on o → r ≡ Err x → (is_done o ≡ false) × (x ≡ o)
+stopped o r x q z = (by_done (is_done o) (ap goes_on (sym z ∙ q)), ap (refusal o) (sym z ∙ q) ∙ same (is_done o))
+  where
+    by_done : (b : Bool) → false ≡ goes_on (cond b (Ok tt) (Err o)) → b ≡ false
+    by_done true p = sym p
+    by_done false p = refl
+
+    same : (b : Bool) → refusal o (cond b (Ok tt) (Err o)) ≡ o
+    same true = refl
+    same false = refl
+
 -- o is what the model judges, whatever books and rows the values are of
 abbrev Judges : Event → Known → Facts → Outcome → Type 0
 Judges e k f o = (bk : Books) (r t : List Version) → Facing bk r t e k f → o ≡ judge (refuses (given_by bk k e r)) (order_of e.kind)
@@ -52,40 +79,36 @@ module _ (e : Event) (k : Known) (f : Facts) (o : Outcome) (v : Verdict) (j : Ju
   unfolding rule
   refused_says off q bk r t fc = rw q (record { is = rw (← j bk r t fc, off); sits = tt })
 
-  pub refused_by_lem : (n : ℕ) → n ≡ number_of o → (n ≡ 0 → ⊥) → v ≡ refused_by o → Decides e k f v
-  refused_by_lem n q z = refused_says (other_refused o (λ h. z (q ∙ h)))
+  pub refused_by_lem : (r : Result Unit Outcome) (x : Outcome) → r ≡ go_on o → r ≡ Err x → v ≡ refused_by x → Decides e k f v
+  refused_by_lem r x q z p = let s = stopped o r x q z in refused_says s.0 (p ∙ ap refused_by s.1)
 
   accepted_says : is_done o ≡ true
       → ((bk : Books) (r t : List Version) → Facing bk r t e k f → Says (accepted (given_by bk k e r)) t k.free v) → Decides e k f v
   unfolding rule
   accepted_says on s bk r t fc = rw (← j bk r t fc, on) (s bk r t fc)
 
-pub done_by : (o : Outcome) (n : ℕ) → n ≡ number_of o → n ≡ 0 → is_done o ≡ true
-done_by o n q z = ap is_done (zero_done o (sym q ∙ z))
-
 -- ---- creates
-module _ (e : Event) (k : Known) (f : Facts) (o : Outcome) (c : is_create e.kind ≡ true)
-    (q : o ≡ create_for e k.absent k.owner f k.free) where
-  pub create_judges : Judges e k f o
-  create_judges bk r t fc = q ∙ rw (fc.absent, fc.owner c) (create_judged t (given_by bk k e r) f fc.survey c)
+module _ (e : Event) (k : Known) (f : Facts) (c : is_create e.kind ≡ true) where
+  pub create_judges : Judges e k f (create_for e k.absent k.owner f k.free)
+  create_judges bk r t fc = rw (fc.absent, fc.owner c) (create_judged t (given_by bk k e r) f fc.survey c)
 
-  module _ (d : is_done o ≡ true) where
+  module _ (d : is_done (create_for e k.absent k.owner f k.free) ≡ true) where
     pub create_room : the_one f.worked ≡ none → f.newest < 65535
     unfolding create_for
     create_room w =
         leb-false 65535 f.newest (rw w at (refusal_passed (test_of create_order (create_tests e k.absent k.owner f k.free))
-        create_order Exhausted refl refl (ap is_done (sym q) ∙ d)))
+        create_order Exhausted refl refl d))
 
     create_free : the_one f.worked ≡ none → k.free ≡ true
     unfolding create_for
     create_free w =
         not-false k.free (rw w at (refusal_passed (test_of create_order (create_tests e k.absent k.owner f k.free)) create_order
-        Full refl refl (ap is_done (sym q) ∙ d)))
+        Full refl refl d))
 
     pub create_says : (v : Verdict) → Creates e f.newest f.worked v → Decides e k f v
     unfolding accepted
     create_says v s =
-        accepted_says e k f o v create_judges d (λ bk r t fc. rw c (s t r k.free fc.survey.newest
+        accepted_says e k f _ v create_judges d (λ bk r t fc. rw c (s t r k.free fc.survey.newest
         (worked_of t r e.version _ f fc.survey c).is
         (worked_of t r e.version _ f fc.survey c).stands (λ w.
         (create_free w, fc.fresh (f.newest + 1) (let h = fc.survey.newest in omega arith)))))
@@ -96,11 +119,11 @@ module _ (e : Event) (k : Known) (f : Facts) (c : is_create e.kind ≡ false) (b
     asked : Found t f.asked (with_number e.version r)
     asked = asked_of t r e.version _ f fc.survey c
 
-    is_found : (s : Seen) → f.asked ≡ s → found (given_by bk k e r) ≡ the_one s
+    is_found : (s : Option Placed) → f.asked ≡ s → found (given_by bk k e r) ≡ the_one s
     is_found s q = sym asked.is ∙ ap the_one q
 
-    module _ (i : ℕ) (v : Version) (q : f.asked ≡ One i v) where
-      is_held : Holds t i v.id
+    module _ (p : Placed) (q : f.asked ≡ Some p) where
+      is_held : Holds t p.at p.version.id
       is_held = let s = subst (Stands t) q asked.stands in (s.0, ap (λ (x : Version). x.id) s.1)
 
 -- 11 and 12 are no creates
@@ -116,46 +139,48 @@ answer_create k h = go (eqb k 11) refl (eqb k 12) refl
     go false p false q = clash (rw (p, q) at h)
 
 -- nobody of that name
-pub unknown_says : (e : Event) (k : Known) (f : Facts) (o : Outcome) (v : Verdict) → is_create e.kind ≡ false → f.asked ≡ Nobody
+pub unknown_says : (e : Event) (k : Known) (f : Facts) (o : Outcome) (v : Verdict) → is_create e.kind ≡ false → f.asked ≡ None
     → o ≡ unknown_by k.absent → v ≡ refused_by o
     → Decides e k f v
 unknown_says e k f o v c q p =
     refused_says e k f o v (λ bk r t fc. p ∙ rw fc.absent (unknown_judged t (given_by bk k e r) f fc.survey c
-    (is_found e k f c bk r t fc Nobody q))) (subst (λ (x : Outcome). is_done x ≡ false) (sym p) (off k.absent))
+    (is_found e k f c bk r t fc None q))) (subst (λ (x : Outcome). is_done x ≡ false) (sym p) (off k.absent))
   where
     off : (b : Bool) → is_done (unknown_by b) ≡ false
     off true = refl
     off false = refl
 
 -- ---- answers
-module _ (e : Event) (k : Known) (f : Facts) (i : ℕ) (v : Version) (q : f.asked ≡ One i v) (o : Outcome) where
-  module _ (a : is_answer e.kind ≡ true) (p : o ≡ answer_for e k.absent v) where
-    pub answer_judges : Judges e k f o
+module _ (e : Event) (k : Known) (f : Facts) (p : Placed) (q : f.asked ≡ Some p) where
+  module _ (a : is_answer e.kind ≡ true) where
+    pub answer_judges : Judges e k f (answer_for e k.absent p.version)
     answer_judges bk r t fc =
-        p ∙ rw fc.absent (answer_judged t (given_by bk k e r) f fc.survey v (answer_create e.kind a) a
-        (is_found e k f (answer_create e.kind a) bk r t fc (One i v) q))
+        rw fc.absent (answer_judged t (given_by bk k e r) f fc.survey p.version (answer_create e.kind a) a
+        (is_found e k f (answer_create e.kind a) bk r t fc (Some p) q))
 
-    pub answer_says : is_done o ≡ true → (w : Verdict) → Settles (answers k.most e v) i v.id f.former w → Decides e k f w
+    pub answer_says : is_done (answer_for e k.absent p.version) ≡ true → (w : Verdict)
+        → Settles (answers k.most e p.version) p.at p.version.id f.former w → Decides e k f w
     unfolding accepted
     answer_says d w s =
-        accepted_says e k f o w answer_judges d (λ bk r t fc.
-        rw (answer_create e.kind a, a, is_found e k f (answer_create e.kind a) bk r t fc (One i v) q)
-        (s t (besides e.version r) k.free (is_held e k f (answer_create e.kind a) bk r t fc i v q)
+        accepted_says e k f _ w answer_judges d (λ bk r t fc.
+        rw (answer_create e.kind a, a, is_found e k f (answer_create e.kind a) bk r t fc (Some p) q)
+        (s t (besides e.version r) k.free (is_held e k f (answer_create e.kind a) bk r t fc p q)
         (fc.lives (answer_create e.kind a))))
 
   -- ---- all others
-  module _ (c : is_create e.kind ≡ false) (a : is_answer e.kind ≡ false) (p : o ≡ other_for e k.absent f v) where
-    pub other_judges : Judges e k f o
+  module _ (c : is_create e.kind ≡ false) (a : is_answer e.kind ≡ false) where
+    pub other_judges : Judges e k f (other_for e k.absent f p.version)
     other_judges bk r t fc =
-        p ∙ rw fc.absent (other_judged t (given_by bk k e r) f fc.survey v c a (is_found e k f c bk r t fc (One i v) q))
+        rw fc.absent (other_judged t (given_by bk k e r) f fc.survey p.version c a (is_found e k f c bk r t fc (Some p) q))
 
-    pub other_says : is_done o ≡ true → (w : Verdict) → Manages k.selected i e v f.former w → Decides e k f w
+    pub other_says : is_done (other_for e k.absent f p.version) ≡ true → (w : Verdict)
+        → Manages k.selected p.at e p.version f.former w → Decides e k f w
     unfolding accepted
     other_says d w s =
-        accepted_says e k f o w other_judges d (λ bk r t fc.
-        rw (c, a, is_found e k f c bk r t fc (One i v) q)
-        (s bk (λ b. fc.selected b v (is_found e k f c bk r t fc (One i v) q)) t (besides e.version r) k.free
-        (is_held e k f c bk r t fc i v q) (fc.lives c)))
+        accepted_says e k f _ w other_judges d (λ bk r t fc.
+        rw (c, a, is_found e k f c bk r t fc (Some p) q)
+        (s bk (λ b. fc.selected b p.version (is_found e k f c bk r t fc (Some p) q)) t (besides e.version r) k.free
+        (is_held e k f c bk r t fc p q) (fc.lives c)))
 
 -- ---- what the functions ask of a sound version
 
@@ -188,13 +213,12 @@ waits_of v p r l m h =
     }
 
 -- an answer that is not refused is awaited
-pub answer_waits : (e : Event) (absent : Bool) (v : Version) (o : Outcome) → well_formed e ≡ true → is_answer e.kind ≡ true → Row v
-    → o ≡ answer_for e absent v → is_done o ≡ true
-    → Waits v.cast (answering e)
-answer_waits e absent v o h a r q d =
+pub answer_waits : (e : Event) (absent : Bool) (v : Version) → well_formed e ≡ true → is_answer e.kind ≡ true → Row v
+    → is_done (answer_for e absent v) ≡ true → Waits v.cast (answering e)
+answer_waits e absent v h a r d =
     let p = answering-named e h a in
     waits_of v (answering e) r p.0 p.1 (not-false (awaited e v) (refusal_passed (test_of answer_order
-    (absent ∷ false ∷ not (awaited e v) ∷ before_start e v ∷ [])) answer_order Unawaited refl refl (ap is_done (sym q) ∙ d)))
+    (absent ∷ false ∷ not (awaited e v) ∷ before_start e v ∷ [])) answer_order Unawaited refl refl d))
 
 -- ---- the grid has a place for the kind
 

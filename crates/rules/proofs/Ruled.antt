@@ -5,6 +5,7 @@ use Prim.Native.Nat.{ℕ, suc, ◌+◌, ◌≤◌}
 use mathlib.Core.Bool.{Bool, true, false, cond}
 use mathlib.Core.Option.{none}
 use mathlib.Core.List.{List, [], ◌∷◌, ◌++◌, map, append-nil}
+use Rattle.std.specs.Prelude.{Option, Some, None}
 use lib.Dec.{eqb}
 use native.Mathlib.Omega.{arith}
 use borrow.Author.Tests.{eqb-true, not-false, ne_eqb}
@@ -27,8 +28,7 @@ use Rattle.model.proofs.Replies.{settled_id}
 use Rattle.model.proofs.Stays.{concurred_stays, modified_stays, cancelled_stays, acknowledged_stays, resolved_stays, window_marked_stays}
 use Rattle.model.proofs.Stays.{window_turned_stays, opened_stays, heard_stays}
 use Rattle.table.specs.Survey.{the_one, list_of, Stands}
-use Rattle.table.specs.declared.survey.Seen.{Seen}
-use Rattle.table.specs.declared.survey.Seen.TheVariants.{Nobody, One}
+use Rattle.table.specs.declared.survey.Placed.{Placed}
 use Rattle.verdict.specs.Verdict.{run_of, messages_of}
 use Rattle.verdict.proofs.Laws.{downloads_are}
 use Rattle.verdict.specs.declared.Rows.{Rows}
@@ -87,7 +87,7 @@ module _ (e : Event) (v w : Version) (i : ℕ) (r : Verdict) where
   window_turns m q = rw m (puts_as (ap turns q) (ap (λ (x : Version). x.id) q ∙ (window_turned_stays e v).name))
 
 -- ---- a broadcast that settles
-module _ (w : Version) (lives : Seen) where
+module _ (w : Version) (lives : Option Placed) where
   settles_replaced : (rest : List Version) → keep live rest ≡ list_of (the_one lives)
       → settles w rest ≡ map (retiring w) (list_of (the_one (replaced_by w lives)))
   unfolding settles retires
@@ -102,7 +102,7 @@ module _ (w : Version) (lives : Seen) where
   replaced_stands : (t : List Version) → Stands t lives → Stands t (replaced_by w lives)
   replaced_stands t h = go (open? w) (takes_over w)
     where
-      go : (a b : Bool) → Stands t (cond a Nobody (cond b lives Nobody))
+      go : (a b : Bool) → Stands t (cond a None (cond b lives None))
       go true b = tt
       go false true = h
       go false false = tt
@@ -111,25 +111,25 @@ module _ (w : Version) (lives : Seen) where
     own : (t : List Version) → Holds t i w.id → Holds t i s.id
     own t h = (h.0, h.1 ∙ sym (ap (λ (x : Version). x.id) es ∙ settled_id w))
 
-    pub settled-alone : replaced_by w lives ≡ Nobody → Settled i w lives (Put s i)
+    pub settled-alone : replaced_by w lives ≡ None → Settled i w lives (Put s i)
     settled-alone e t rest free h l = (
       ap₂ (λ (x : Version) (cs : List Change). put x ∷ cs) es
-          (sym (settles_replaced rest l.only ∙ ap (λ (x : Seen). map (retiring w) (list_of (the_one x))) e)),
+          (sym (settles_replaced rest l.only ∙ ap (λ (x : Option Placed). map (retiring w) (list_of (the_one x))) e)),
       own t h,
     )
 
-    pub settled_over : (j : ℕ) (x old : Version) → old ≡ retired w.stamp x → replaced_by w lives ≡ One j x
-        → Settled i w lives (PutTwo s i old j)
+    pub settled_over : (p : Placed) (old : Version) → old ≡ retired w.stamp p.version → replaced_by w lives ≡ Some p
+        → Settled i w lives (PutTwo s i old p.at)
     unfolding retired
-    settled_over j x old eo e t rest free h l =
+    settled_over p old eo e t rest free h l =
         let b = subst (Stands t) e (replaced_stands t l.stands) in (
           ap₂ (λ (y : Version) (cs : List Change). put y ∷ cs) es
               (ap (λ (y : Version). put y ∷ []) eo ∙ sym (settles_replaced rest l.only ∙ ap
-              (λ (y : Seen). map (retiring w) (list_of (the_one y))) e)),
+              (λ (y : Option Placed). map (retiring w) (list_of (the_one y))) e)),
           (own t h, (b.0, ap (λ (y : Version). y.id) b.1 ∙ sym (ap (λ (y : Version). y.id) eo))),
         )
 
-module _ (i : ℕ) (w : Version) (lives : Seen) (rows : Rows) (s : Settled i w lives rows) where
+module _ (i : ℕ) (w : Version) (lives : Option Placed) (rows : Rows) (s : Settled i w lives rows) where
   -- so many are asked
   pub cast_asks : (run : Run) → open? w ≡ true → run ≡ record { say = download_to w 0; to = Locals w.cast.waiting }
       → Settles (broadcast_of w) i w.id lives (record { out = Done; rows = rows; mail = mail.One run })
@@ -168,7 +168,7 @@ cast_way bk e v rest h = go (eqb e.kind 5) refl (eqb e.kind 9) refl (eqb e.kind 
     go false p false q false u true w = rw (at 14 w)
     go false p false q false u false w = clash (rw (p, q, u, w) at h)
 
-module _ (s i : ℕ) (e : Event) (v w : Version) (lives : Seen) (r : Verdict) where
+module _ (s i : ℕ) (e : Event) (v w : Version) (lives : Option Placed) (r : Verdict) where
   -- a way that changes one row
   by_row : (f : Version → Result) (x : Version) → ((bk : Books) (rest : List Version) → manages bk e v rest ≡ f x) → x.id ≡ v.id → w ≡ x
       → Puts (f w) i w.id r
@@ -202,12 +202,13 @@ module _ (s i : ℕ) (e : Event) (v w : Version) (lives : Seen) (r : Verdict) wh
       (ap (λ (x : Version). broadcast_of x rest) (q ∙ ap (λ (m : ℕ). opened m e v) (pick k)) ∙ sym (cast_way bk e v rest k))
       (p t rest free (h.0, h.1 ∙ sym n) l)
 
-pub managed_window : (s i : ℕ) (e : Event) (v : Version) (lives : Seen) (r : Verdict) → e.kind ≡ 13 → Puts (window_runs e v) i v.id r
+pub managed_window : (s i : ℕ) (e : Event) (v : Version) (lives : Option Placed) (r : Verdict) → e.kind ≡ 13
+    → Puts (window_runs e v) i v.id r
     → Manages s i e v lives r
 unfolding manages
 managed_window s i e v lives r k p bk pick t rest free h l = puts_as {y = manages bk e v rest} (rw k) refl p t free h
 
-pub managed_purge : (s i : ℕ) (e : Event) (v : Version) (lives : Seen) → is_broadcast e.kind ≡ false → is_modify e.kind ≡ false
+pub managed_purge : (s i : ℕ) (e : Event) (v : Version) (lives : Option Placed) → is_broadcast e.kind ≡ false → is_modify e.kind ≡ false
     → (e.kind ≡ 6 → ⊥) → (e.kind ≡ 7 → ⊥)
     → (e.kind ≡ 8 → ⊥) → (e.kind ≡ 13 → ⊥) → Manages s i e v lives (record { out = Done; rows = Strike i v.id; mail = mail.Silence })
 unfolding manages
@@ -216,7 +217,7 @@ managed_purge s i e v lives b m p q u w bk pick t rest free h l =
 
 -- ---- an answer
 
-pub answered_says : (most i : ℕ) (e : Event) (v w : Version) (lives : Seen) (rows : Rows) (mail : Mail) (again' : Bool) (p : ℕ)
+pub answered_says : (most i : ℕ) (e : Event) (v w : Version) (lives : Option Placed) (rows : Rows) (mail : Mail) (again' : Bool) (p : ℕ)
     → again' ≡ again most e v.cast → p ≡ answering e
     → w ≡ heard most e v → Settled i w lives rows → messages_of mail ≡ cond again' (download_to v p ∷ []) [] ++ settling_told w
     → Settles (answers most e v) i v.id lives (record { out = Done; rows = rows; mail = mail })
@@ -231,8 +232,8 @@ answered_says most i e v w lives rows mail a p ea ep ew s m t rest free h l =
     }
 
 -- ---- a create
-module _ (e : Event) (last : ℕ) (worked : Seen) (w : Version) (r : Verdict) where
-  pub created_fresh : worked ≡ Nobody → w ≡ fresh_numbered e (last + 1) → Adds (accept (created_told w) (add w ∷ [])) w.id r
+module _ (e : Event) (last : ℕ) (worked : Option Placed) (w : Version) (r : Verdict) where
+  pub created_fresh : worked ≡ None → w ≡ fresh_numbered e (last + 1) → Adds (accept (created_told w) (add w ∷ [])) w.id r
       → Creates e last worked r
   unfolding creates fresh_version
   created_fresh q ew a t rows free n o st fr =
@@ -243,13 +244,13 @@ module _ (e : Event) (last : ℕ) (worked : Seen) (w : Version) (r : Verdict) wh
       (sym (ap the_one q) ∙ o))
       (a t free f.0 (subst (λ (x : Version). find x.id t ≡ none) (sym ew) f.1))
 
-  pub created_joins : (i : ℕ) (v : Version) → worked ≡ One i v → w ≡ concurred e v
-      → Puts (accept (restated_told v w) (put w ∷ [])) i w.id r → Creates e last worked r
+  pub created_joins : (p : Placed) → worked ≡ Some p → w ≡ concurred e p.version
+      → Puts (accept (restated_told p.version w) (put w ∷ [])) p.at w.id r → Creates e last worked r
   unfolding creates
-  created_joins i v q ew p t rows free n o st fr =
+  created_joins s q ew p t rows free n o st fr =
       let b = subst (Stands t) q st in
-      puts_as (ap (λ (x : Version). accept (restated_told v x) (put x ∷ [])) ew ∙ ap (create_on e rows) (sym (ap the_one q) ∙ o))
-      (ap (λ (x : Version). x.id) ew ∙ (concurred_stays e v).name) p t free
+      puts_as (ap (λ (x : Version). accept (restated_told s.version x) (put x ∷ [])) ew ∙ ap (create_on e rows) (sym (ap the_one q) ∙ o))
+      (ap (λ (x : Version). x.id) ew ∙ (concurred_stays e s.version).name) p t free
       (b.0, ap (λ (x : Version). x.id) b.1)
 
 -- ---- the purpose of what is opened

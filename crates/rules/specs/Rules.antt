@@ -1,6 +1,6 @@
 -- What the rules are told of books and table, and what is promised of their verdict.
 -- Assumes nothing.
-use Rattle.std.specs.Prelude.{◌≡◌, ℕ, ◌+◌, ◌<◌, Bool, true, false, cond, List, ◌∷◌, length}
+use Rattle.std.specs.Prelude.{◌≡◌, ℕ, ◌+◌, ◌<◌, Bool, true, false, cond, List, ◌∷◌, length, Option, Some, None}
 use Rattle.std.proofs.Math.Option.{none, some}
 use Rattle.model.specs.Basics.{keep}
 use Rattle.model.specs.Numbers.{code_of}
@@ -17,8 +17,7 @@ use Rattle.model.specs.Refusals.{absent}
 use Rattle.model.proofs.SoundRows.{Row}
 use Rattle.table.specs.Survey.{Surveyed, Stands, the_one, list_of, version_at}
 use Rattle.table.specs.declared.survey.Facts.{Facts}
-use Rattle.table.specs.declared.survey.Seen.{Seen}
-use Rattle.table.specs.declared.survey.Seen.TheVariants as seen
+use Rattle.table.specs.declared.survey.Placed.{Placed}
 use Rattle.verdict.specs.Verdict.{changes_of, result_of}
 use Rattle.verdict.specs.declared.Rows.{Rows}
 use Rattle.verdict.specs.declared.Rows.TheVariants.{Nothing, Put, PutTwo, Add, Strike}
@@ -45,7 +44,7 @@ Sits t free (Add v) = (free ≡ true) × (find v.id t ≡ none)
 Sits t free (Strike i k) = Holds t i k
 
 -- of the other versions just the one that was seen is live, and it stands in t
-pub record Lives (t : List Version) (s : Seen) (rest : List Version) : Type 0 where
+pub record Lives (t : List Version) (s : Option Placed) (rest : List Version) : Type 0 where
   pub only : keep live rest ≡ list_of (the_one s)
   pub stands : Stands t s
 
@@ -61,7 +60,7 @@ abbrev pub Puts : Result → ℕ → Id → Verdict → Type 0
 Puts x i k v = (t : List Version) (free : Bool) → Holds t i k → Says x t free v
 
 -- one that may change the live one of the other versions too
-abbrev pub Settles : (List Version → Result) → ℕ → Id → Seen → Verdict → Type 0
+abbrev pub Settles : (List Version → Result) → ℕ → Id → Option Placed → Verdict → Type 0
 Settles x i k lives v = (t rest : List Version) (free : Bool) → Holds t i k → Lives t lives rest → Says (x rest) t free v
 
 -- one that adds a version of the name k
@@ -71,29 +70,29 @@ Adds x k v = (t : List Version) (free : Bool) → free ≡ true → find k t ≡
 -- ---- what it is told
 
 -- the live version that the close of w makes old, if any
-abbrev pub replaced_by : Version → Seen → Seen
-replaced_by w lives = cond (open? w) seen.Nobody (cond (takes_over w) lives seen.Nobody)
+abbrev pub replaced_by : Version → Option Placed → Option Placed
+replaced_by w lives = cond (open? w) None (cond (takes_over w) lives None)
 
 -- w settles at place i: it stays open, or closes with what that brings
-abbrev pub Settled : ℕ → Version → Seen → Rows → Type 0
+abbrev pub Settled : ℕ → Version → Option Placed → Rows → Type 0
 Settled i w lives r = (t rest : List Version) (free : Bool) → Holds t i w.id → Lives t lives rest
     → (changes_of r ≡ put (settled w) ∷ settles w rest) × Sits t free r
 
 -- any kind but creates and answers, for v at place i; a broadcast asks the selected
-abbrev pub Manages : ℕ → ℕ → Event → Version → Seen → Verdict → Type 0
+abbrev pub Manages : ℕ → ℕ → Event → Version → Option Placed → Verdict → Type 0
 Manages selected i e v lives r =
     (bk : Books) → (is_broadcast e.kind ≡ true → selected ≡ selected_for bk v.id.tn) → Settles (manages bk e v) i v.id lives r
 
 -- a create, where `last` is the newest number of its rows and `worked` their worked version
-abbrev pub Creates : Event → ℕ → Seen → Verdict → Type 0
+abbrev pub Creates : Event → ℕ → Option Placed → Verdict → Type 0
 Creates e last worked v =
     (t rows : List Version) (free : Bool) → last ≡ newest rows → the_one worked ≡ worked_one rows → Stands t worked
     → (the_one worked ≡ none → (free ≡ true) × (find (record { tn = e.tn; number = last + 1 }) t ≡ none)) → Says (creates e rows) t free v
 
 -- the version that was seen is sound
-abbrev pub Kept : Seen → Type 0
-Kept seen.Nobody = Unit {0}
-Kept (seen.One i v) = Row v
+abbrev pub Kept : Option Placed → Type 0
+Kept None = Unit {0}
+Kept (Some p) = Row p.version
 
 -- what the model's rule is given
 abbrev pub given_by : Books → Known → Event → List Version → Given

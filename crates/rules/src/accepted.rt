@@ -19,7 +19,7 @@ ghost use Rattle.rules.specs.Rules.{Puts, Settles, Adds, replaced_by, Settled, M
 
 use crate::told;
 use model::{Event, Lrn, Outcome, Version, kind, sort};
-use table::survey::Seen;
+use table::survey::Placed;
 use verdict::{Mail, Rows, To, Verdict};
 
 // ---- one row
@@ -40,8 +40,7 @@ fn turned(i: usize, w: Version) -> Verdict
 fn restated(i: usize, v: Version, w: Version) -> Verdict
     ensures { Puts (accept (restated_told v w) (put w ∷ [])) i w.id result }
 {
-    let lrn = w.new.lrn;
-    let attributes = told::sides(w, sort::ATTRIBUTES, 0, lrn);
+    let attributes = told::sides(w, sort::ATTRIBUTES, 0, w.new.lrn);
     if v.status == w.status {
         return Verdict {
             out: Outcome::Done,
@@ -69,48 +68,44 @@ fn marked(i: usize, w: Version) -> Verdict
     }
 }
 
-// The window ran out for v, at place i.
-fn window(i: usize, e: Event, v: Version) -> Verdict
-    ensures { Puts (window_runs e v) i v.id result }
+// The window ran out for the version that was asked for.
+fn window(e: Event, asked: Placed) -> Verdict
+    ensures { Puts (window_runs e asked.version) asked.at asked.version.id result }
 {
-    if sides::window_marks(v) {
-        return marked(i, sides::window_marked(e, v));
+    if sides::window_marks(asked.version) {
+        return marked(asked.at, sides::window_marked(e, asked.version));
     }
-    turned(i, sides::window_turned(e, v))
+    turned(asked.at, sides::window_turned(e, asked.version))
 }
 
 // ---- broadcasts
 
 // The live version that the close of w makes old, if any.
-fn replaced(w: Version, lives: Seen) -> Seen
+fn replaced(w: Version, lives: Option<Placed>) -> Option<Placed>
     ensures { result ≡ replaced_by w lives }
 {
     if closing::is_open(w) {
-        return Seen::Nobody;
+        return None;
     }
     if closing::takes_over(w) {
         return lives;
     }
-    Seen::Nobody
+    None
 }
 
 // w open at place i, or closed, with the other live version made old.
-fn settled(i: usize, w: Version, lives: Seen) -> Rows
+fn settled(i: usize, w: Version, lives: Option<Placed>) -> Rows
     ensures { Settled i w lives result }
 {
     let s = closing::settled(w);
-    let over = replaced(w, lives);
-    match over {
-        Seen::One(j, x) => {
-            let old = closing::retired(w.stamp, x);
-            Rows::PutTwo(s, i, old, j)
-        }
-        Seen::Nobody => Rows::Put(s, i),
+    match replaced(w, lives) {
+        Some(over) => Rows::PutTwo(s, i, closing::retired(w.stamp, over.version), over.at),
+        None => Rows::Put(s, i),
     }
 }
 
 // w in a broadcast that starts: downloads, or all that its close brings.
-fn cast(i: usize, w: Version, lives: Seen) -> Verdict
+fn cast(i: usize, w: Version, lives: Option<Placed>) -> Verdict
     requires { w.cast.purpose ≤ disconnect }
     ensures { Settles (broadcast_of w) i w.id lives result }
 {
@@ -128,21 +123,21 @@ fn cast(i: usize, w: Version, lives: Seen) -> Verdict
 }
 
 // The modifies, the kinds that begin a broadcast, and purge.
-fn plain(selected: u64, i: usize, e: Event, v: Version, lives: Seen) -> Verdict
-    requires purpose_le_disconnect { v.cast.purpose ≤ disconnect }
+fn plain(selected: u64, e: Event, asked: Placed, lives: Option<Placed>) -> Verdict
+    requires purpose_le_disconnect { asked.version.cast.purpose ≤ disconnect }
     requires fact { (e.kind ≡ 6 → ⊥) × (e.kind ≡ 7 → ⊥) × (e.kind ≡ 8 → ⊥) × (e.kind ≡ 13 → ⊥) }
-    ensures { Manages selected i e v lives result }
+    ensures { Manages selected asked.at e asked.version lives result }
 {
+    let v = asked.version;
     if is_modify(e.kind) {
-        return restated(i, v, sides::modified(e, v));
+        return restated(asked.at, v, sides::modified(e, v));
     }
     if opening::is_broadcast(e.kind) {
-        return cast(i, opening::opened(selected, e, v), lives);
+        return cast(asked.at, opening::opened(selected, e, v), lives);
     }
-    let id = v.id;
     Verdict {
         out: Outcome::Done,
-        rows: Rows::Strike(i, id),
+        rows: Rows::Strike(asked.at, v.id),
         mail: Mail::Silence,
     }
 }
@@ -153,18 +148,18 @@ fn is_modify(kind: u8) -> bool
     (kind == kind::NEW_MODIFIES) | (kind == kind::OLD_MODIFIES)
 }
 
-// Kinds 3 to 10 and 13 to 15 for v, at place i; `selected` is whom a broadcast asks.
-pub fn managed(selected: u64, i: usize, e: Event, v: Version, lives: Seen) -> Verdict
-    requires { v.cast.purpose ≤ disconnect }
-    ensures { Manages selected i e v lives result }
+// Kinds 3 to 10 and 13 to 15 for the version that was asked for; `selected` is whom a broadcast asks.
+pub fn managed(selected: u64, e: Event, asked: Placed, lives: Option<Placed>) -> Verdict
+    requires { asked.version.cast.purpose ≤ disconnect }
+    ensures { Manages selected asked.at e asked.version lives result }
 {
-    let kind = e.kind;
-    match kind {
-        kind::CANCEL => turned(i, sides::cancelled(e, v)),
-        kind::ACKNOWLEDGE_CANCEL => turned(i, sides::acknowledged(e, v)),
-        kind::RESOLVE_CONFLICT => turned(i, sides::resolved(e, v)),
-        kind::WINDOW_RAN_OUT => window(i, e, v),
-        _ => plain(selected, i, e, v, lives),
+    let v = asked.version;
+    match e.kind {
+        kind::CANCEL => turned(asked.at, sides::cancelled(e, v)),
+        kind::ACKNOWLEDGE_CANCEL => turned(asked.at, sides::acknowledged(e, v)),
+        kind::RESOLVE_CONFLICT => turned(asked.at, sides::resolved(e, v)),
+        kind::WINDOW_RAN_OUT => window(e, asked),
+        _ => plain(selected, e, asked, lives),
     }
 }
 
@@ -180,31 +175,27 @@ fn answer_mail(again: bool, p: u8, v: Version, w: Version) -> Mail
         if closing::is_open(w) {
             return Mail::One(run);
         }
-        let last = told::close(w);
-        return Mail::Two(run, last);
+        return Mail::Two(run, told::close(w));
     }
     if closing::is_open(w) {
         return Mail::Silence;
     }
-    let last = told::close(w);
-    Mail::One(last)
+    Mail::One(told::close(w))
 }
 
-// An awaited answer for v, at place i.
-pub fn answered(most: u8, i: usize, e: Event, v: Version, lives: Seen) -> Verdict
-    requires most_le_most_retries { (most ≤ most_retries) × (v.cast.purpose ≤ disconnect) }
-    requires waits { Waits v.cast (answering e) }
-    ensures { Settles (answers most e v) i v.id lives result }
+// An awaited answer for the version that was asked for.
+pub fn answered(most: u8, e: Event, asked: Placed, lives: Option<Placed>) -> Verdict
+    requires most_le_most_retries { (most ≤ most_retries) × (asked.version.cast.purpose ≤ disconnect) }
+    requires waits { Waits asked.version.cast (answering e) }
+    ensures { Settles (answers most e asked.version) asked.at asked.version.id lives result }
 {
-    let p = answers::answering(e);
-    let again = answers::again(most, e, v.cast);
+    let v = asked.version;
     let w = answers::heard(most, e, v);
-    let rows = settled(i, w, lives);
-    let mail = answer_mail(again, p, v, w);
+    let again = answers::again(most, e, v.cast);
     Verdict {
         out: Outcome::Done,
-        rows,
-        mail,
+        rows: settled(asked.at, w, lives),
+        mail: answer_mail(again, answers::answering(e), v, w),
     }
 }
 
@@ -223,12 +214,12 @@ fn added(w: Version) -> Verdict
 }
 
 // A create: a fresh version, numbered one above the newest, or a concurrence with the worked one.
-pub fn created(e: Event, last: u16, worked: Seen) -> Verdict
+pub fn created(e: Event, last: u16, worked: Option<Placed>) -> Verdict
     requires { the_one worked ≡ none → last < last_number }
     ensures { Creates e last worked result }
 {
     match worked {
-        Seen::One(i, v) => restated(i, v, sides::concurred(e, v)),
-        Seen::Nobody => added(sides::fresh(e, last + 1)),
+        Some(p) => restated(p.at, p.version, sides::concurred(e, p.version)),
+        None => added(sides::fresh(e, last + 1)),
     }
 }

@@ -4,15 +4,14 @@
 pub mod accepted;
 pub mod told;
 
-ghost use Rattle.std.specs.Prelude.{◌≡◌, true, false, ◌≤◌};
+ghost use Rattle.std.specs.Prelude.{◌≡◌, true, false, ◌≤◌, Some};
 ghost use Rattle.model.specs.Books.{most_retries};
 ghost use Rattle.model.specs.Record.{is_create, is_answer, well_formed};
 ghost use Rattle.model.proofs.SoundRows.{Row};
-ghost use Rattle.table.specs.declared.survey.Seen.TheVariants.{One};
 ghost use Rattle.rules.specs.Rules.{Kept, Decides, refused_by};
 
-use model::{Event, Outcome, Version, kind};
-use table::survey::{Facts, Seen};
+use model::{Event, Outcome, kind};
+use table::survey::{Facts, Placed};
 use verdict::{Mail, Rows, Verdict};
 
 // What the books and the table say beside the versions: R, whether sender or other is not present, the owner of a create's code, whether a
@@ -41,40 +40,34 @@ fn on_create(e: Event, k: Known, f: Facts) -> Verdict
     requires { is_create e.kind ≡ true }
     ensures { Decides e k f result }
 {
-    let o = judge::create(e, k.absent, k.owner, f, k.free);
-    if outcomes::number(o) != 0 {
-        return refused(o);
+    if let Err(out) = judge::create(e, k.absent, k.owner, f, k.free) {
+        return refused(out);
     }
-    let worked = f.worked;
-    accepted::created(e, f.newest, worked)
+    accepted::created(e, f.newest, f.worked)
 }
 
 // Kinds 11 and 12.
-fn on_answer(e: Event, k: Known, f: Facts, i: usize, v: Version) -> Verdict
-    requires e_value { (well_formed e ≡ true) × (k.most ≤ most_retries) × Row v }
-    requires asked_value { (f.asked ≡ One i v) × (is_answer e.kind ≡ true) }
+fn on_answer(e: Event, k: Known, f: Facts, asked: Placed) -> Verdict
+    requires e_value { (well_formed e ≡ true) × (k.most ≤ most_retries) × Row asked.version }
+    requires asked_value { (f.asked ≡ Some asked) × (is_answer e.kind ≡ true) }
     ensures { Decides e k f result }
 {
-    let o = judge::answer(e, k.absent, v);
-    if outcomes::number(o) != 0 {
-        return refused(o);
+    if let Err(out) = judge::answer(e, k.absent, asked.version) {
+        return refused(out);
     }
-    let lives = f.former;
-    accepted::answered(k.most, i, e, v, lives)
+    accepted::answered(k.most, e, asked, f.former)
 }
 
 // All other kinds.
-fn on_other(e: Event, k: Known, f: Facts, i: usize, v: Version) -> Verdict
-    requires e_value { (well_formed e ≡ true) × Row v }
-    requires asked_value { (f.asked ≡ One i v) × (is_create e.kind ≡ false) × (is_answer e.kind ≡ false) }
+fn on_other(e: Event, k: Known, f: Facts, asked: Placed) -> Verdict
+    requires e_value { (well_formed e ≡ true) × Row asked.version }
+    requires asked_value { (f.asked ≡ Some asked) × (is_create e.kind ≡ false) × (is_answer e.kind ≡ false) }
     ensures { Decides e k f result }
 {
-    let o = judge::other(e, k.absent, f, v);
-    if outcomes::number(o) != 0 {
-        return refused(o);
+    if let Err(out) = judge::other(e, k.absent, f, asked.version) {
+        return refused(out);
     }
-    let lives = f.former;
-    accepted::managed(k.selected, i, e, v, lives)
+    accepted::managed(k.selected, e, asked, f.former)
 }
 
 pub fn is_create(kind: u8) -> bool
@@ -98,14 +91,11 @@ pub fn decide(e: Event, k: Known, f: Facts) -> Verdict
     if is_create(e.kind) {
         return on_create(e, k, f);
     }
-    let asked = f.asked;
-    match asked {
-        Seen::One(i, v) => {
-            if is_answer(e.kind) {
-                return on_answer(e, k, f, i, v);
-            }
-            on_other(e, k, f, i, v)
-        }
-        Seen::Nobody => refused(judge::unknown(k.absent)),
+    let Some(asked) = f.asked else {
+        return refused(judge::unknown(k.absent));
+    };
+    if is_answer(e.kind) {
+        return on_answer(e, k, f, asked);
     }
+    on_other(e, k, f, asked)
 }

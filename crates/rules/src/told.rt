@@ -12,12 +12,11 @@ use verdict::{Run, To};
 fn about(w: Version, sort: u8, failed: u64, lrn: Lrn) -> Message
     ensures { result ≡ message w false sort failed 0 lrn }
 {
-    let id = w.id;
     Message {
         local: false,
         provider: 0,
         sort,
-        id,
+        id: w.id,
         status: w.status,
         failed,
         lrn,
@@ -54,16 +53,14 @@ pub fn download(w: Version, to: To) -> Run
     requires { w.cast.purpose ≤ disconnect }
     ensures { result ≡ record { say = download_to w 0; to = to } }
 {
-    let id = w.id;
-    let lrn = w.new.lrn;
     let say = Message {
         local: true,
         provider: 0,
         sort: sort::DOWNLOAD + w.cast.purpose,
-        id,
+        id: w.id,
         status: w.status,
         failed: 0,
-        lrn,
+        lrn: w.new.lrn,
     };
     Run { say, to }
 }

@@ -7,9 +7,8 @@ use lib.Dec.{lit<}
 use Rattle.model.specs.Sound.{sound_version}
 use Rattle.words.specs.declared.Words.{Words}
 use Rattle.row.specs.Layout.{version_of, spareless}
-use Rattle.scan.specs.declared.join.Group.{Group}
-use Rattle.scan.specs.declared.join.Joined.TheVariants.{No}
-use Rattle.scan.specs.Join.{join_of}
+use Rattle.std.specs.Prelude.{None}
+use Rattle.scan.specs.Join.{Group, join_of}
 use Rattle.scan.specs.Sound.{admit_of}
 
 -- a TN has 34 bits in a row
@@ -22,10 +21,10 @@ module _ (g : Group) (w : Words) where
   unfolding admit_of
   admit_sound s v = rw (s, v)
 
-  pub admit_unsound : spareless w ≡ true → sound_version (version_of w) ≡ false → No ≡ admit_of g w
+  pub admit_unsound : spareless w ≡ true → sound_version (version_of w) ≡ false → None ≡ admit_of g w
   unfolding admit_of
   admit_unsound s v = rw (s, v)
 
-  pub admit_spare : spareless w ≡ false → No ≡ admit_of g w
+  pub admit_spare : spareless w ≡ false → None ≡ admit_of g w
   unfolding admit_of
   admit_spare s = rw s

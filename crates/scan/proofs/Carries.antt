@@ -14,10 +14,9 @@ use Rattle.model.specs.declared.Version.{Version}
 use Rattle.model.proofs.Lists.{conj_at}
 use Rattle.model.proofs.SoundSets.{every_at}
 use Rattle.row.specs.Layout.{key_of}
-use Rattle.scan.specs.declared.join.Group.{Group}
 use Rattle.scan.specs.declared.join.Bits.{Bits}
-use Rattle.scan.specs.declared.join.Joined.TheVariants.{No, Yes}
-use Rattle.scan.specs.Join.{start, same, second, either, follows, next, join_if, join_of}
+use Rattle.std.specs.Prelude.{None, Some}
+use Rattle.scan.specs.Join.{Group, start, same, second, either, follows, next, join_if, join_of}
 use Rattle.scan.specs.Carried.{bits_of, is_live, is_sent, is_work, group_of}
 
 -- ---- the marks as bits
@@ -167,11 +166,11 @@ module _ (s : Bits) (v : Version) (few : s.had < 8) (had has : ℕ) (eh : had �
       (not (second b (is_work s.had) (worked v)))
       ∙ ap (λ (x : Bool). ltb s.last (key_of v.id) && x) (sym (test_is b s.had (live v) (sends v) (worked v) few))
 
-  pub follow_late : key_of v.id ≤ s.last → No ≡ join_of (group_of s) v
+  pub follow_late : key_of v.id ≤ s.last → None ≡ join_of (group_of s) v
   unfolding join_of
   follow_late h =
       let e : (ltb s.last (key_of v.id) && eqb (bit_and (cond b s.had 0) m) 0) ≡ false = rw (le-ltb s.last (key_of v.id) h) in
-      sym (ap (λ (x : Bool). join_if x (Yes (next (group_of s) v)) No) (follows_test ∙ e))
+      sym (ap (λ (x : Bool). join_if x (Some (next (group_of s) v)) None) (follows_test ∙ e))
 
   meet : bit_and had has ≡ bit_and (cond b s.had 0) m
   meet = ap₂ (λ (x y : ℕ). bit_and x y) eh es
@@ -180,10 +179,10 @@ module _ (s : Bits) (v : Version) (few : s.had < 8) (had has : ℕ) (eh : had �
   both_false true y e = e
   both_false false y e = refl
 
-  pub follow_twice : (bit_and had has ≡ 0 → ⊥) → No ≡ join_of (group_of s) v
+  pub follow_twice : (bit_and had has ≡ 0 → ⊥) → None ≡ join_of (group_of s) v
   unfolding join_of
   follow_twice n =
-      sym (ap (λ (x : Bool). join_if x (Yes (next (group_of s) v)) No)
+      sym (ap (λ (x : Bool). join_if x (Some (next (group_of s) v)) None)
       (follows_test ∙ both_false (ltb s.last (key_of v.id)) (eqb (bit_and (cond b s.had 0) m) 0)
       (ne_eqb (bit_and (cond b s.had 0) m) 0 (λ e. n (meet ∙ e)))))
 
@@ -200,13 +199,13 @@ module _ (s : Bits) (v : Version) (few : s.had < 8) (had has : ℕ) (eh : had �
       worked = now_work s.had (live v) (sends v) (worked v) few b free i;
     }
 
-    pub follow_go : Yes (group_of (record { last = key_of v.id; had = had + has })) ≡ join_of (group_of s) v
+    pub follow_go : Some (group_of (record { last = key_of v.id; had = had + has })) ≡ join_of (group_of s) v
     unfolding join_of
     follow_go =
         let e : (ltb s.last (key_of v.id) && eqb (bit_and (cond b s.had 0) m) 0) ≡ true =
         rw (lt-ltb s.last (key_of v.id) h, free) in
-        ap₂ (λ (x y : ℕ). Yes (group_of (record { last = key_of v.id; had = x + y }))) eh es ∙ ap (λ (g : Group). Yes g) next_is
-        ∙ sym (ap (λ (x : Bool). join_if x (Yes (next (group_of s) v)) No) (follows_test ∙ e))
+        ap₂ (λ (x y : ℕ). Some (group_of (record { last = key_of v.id; had = x + y }))) eh es ∙ ap (λ (g : Group). Some g) next_is
+        ∙ sym (ap (λ (x : Bool). join_if x (Some (next (group_of s) v)) None) (follows_test ∙ e))
 
     pub follow_few : had + has < 8
     follow_few = subst (λ (x : ℕ). x < 8) (sym (ap₂ (λ (x y : ℕ). x + y) eh es)) (now_few s.had (live v) (sends v) (worked v) few b free)

@@ -21,13 +21,10 @@ use Rattle.model.proofs.TableLaws.{rising_part}
 use Rattle.model.proofs.Apart.{rows_rows}
 use Rattle.model.proofs.SoundLines.{distinct_rising}
 use Rattle.model.proofs.SoundTables.{rising_says, says_twice}
-use Rattle.scan.specs.declared.join.Group.{Group}
-use Rattle.scan.specs.declared.Scan.{Scan}
-use Rattle.scan.specs.declared.Scan.TheVariants.{Bad, Open, Ended}
-use Rattle.scan.specs.declared.Soundness.TheVariants.{Sound}
+use Rattle.std.specs.Prelude.{Some}
 use Rattle.rows.specs.Table.{pieces_of, decode, encode}
-use Rattle.scan.specs.Join.{start, same, second, follows, next, Chain}
-use Rattle.scan.specs.Sound.{pick, scan_rows, scan_of, said_by, soundness_of, rows_in, itself, SoundTable}
+use Rattle.scan.specs.Join.{Group, start, same, second, follows, next, Chain}
+use Rattle.scan.specs.Sound.{Scan, Bad, Open, Ended, pick, scan_rows, scan_of, said_by, soundness_of, rows_in, itself, SoundTable}
 use Rattle.rows.proofs.Sounds.{AllSound, RisingFrom, number_lt, all_sound, sound_all, rising_rises, rises_rising}
 use Rattle.scan.proofs.Counted.{one, Flags, AtMostOne, one_of, flags_tally, tally_flags, one_each_lem, each_one}
 use Rattle.rows.proofs.Tables.{encode-length}
@@ -193,18 +190,18 @@ pick_bad : (b : Bool) (s : Scan) (m : ℕ) → Counts (pick b s Bad) m → (b �
 pick_bad true s m h = (refl, h)
 pick_bad false s m h = absurd h
 
-said_counts : (s : Scan) (n : ℕ) → said_by s ≡ Sound n → Counts s n
+said_counts : (s : Scan) (n : ℕ) → said_by s ≡ Some n → Counts s n
 said_counts Bad n e = let z : ◌≡◌ {A = ℕ} 0 1 = cc in absurd (omega arith)
 said_counts (Open m g) n e = cc
 said_counts (Ended m) n e = cc
 
-counts_said : (s : Scan) (n : ℕ) → Counts s n → said_by s ≡ Sound n
+counts_said : (s : Scan) (n : ℕ) → Counts s n → said_by s ≡ Some n
 counts_said Bad n h = absurd h
-counts_said (Open m g) n h = ap Sound h
-counts_said (Ended m) n h = ap Sound h
+counts_said (Open m g) n h = ap Some h
+counts_said (Ended m) n h = ap Some h
 
 -- where the scan says sound with n used rows, the bytes are a sound table with n used rows
-pub sound_says : (t : List ℕ) (n : ℕ) → Bytes t → soundness_of t ≡ Sound n → SoundTable t n
+pub sound_says : (t : List ℕ) (n : ℕ) → Bytes t → soundness_of t ≡ Some n → SoundTable t n
 unfolding soundness_of scan_of
 sound_says t n y e =
     let h = said_counts (scan_of t) n e in
@@ -226,7 +223,7 @@ sound_says t n y e =
     }
 
 -- and of the bytes of every sound table the scan says so
-pub says_sound : (vs : List Version) (rows : ℕ) → sound_table itself rows vs ≡ true → soundness_of (encode vs rows) ≡ Sound (length vs)
+pub says_sound : (vs : List Version) (rows : ℕ) → sound_table itself rows vs ≡ true → soundness_of (encode vs rows) ≡ Some (length vs)
 unfolding soundness_of scan_of
 says_sound vs rows s =
     let g = table_good rows vs s in

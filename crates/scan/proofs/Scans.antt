@@ -19,15 +19,12 @@ use Rattle.words.specs.Codec.{words_in, is_blank, blank}
 use Rattle.row.specs.Layout.{version_of, spareless, pack, unpack}
 use Rattle.row.proofs.Rooms.{sound_room, sound_tn}
 use Rattle.row.proofs.Packs.{unpack-pack, pack-unpack, pack-spareless, blank_row, blank_free, pack-used}
-use Rattle.scan.specs.declared.join.Group.{Group}
-use Rattle.scan.specs.declared.join.Joined.TheVariants.{No, Yes}
-use Rattle.scan.specs.declared.Scan.{Scan}
-use Rattle.scan.specs.declared.Scan.TheVariants.{Bad, Open, Ended}
+use Rattle.std.specs.Prelude.{None, Some}
 use Rattle.rows.specs.Chunks.{chunks, joined}
 use Rattle.rows.specs.Place.{row_at}
 use Rattle.rows.specs.Table.{pieces_of, used, decode, cells, encode}
-use Rattle.scan.specs.Join.{start, follows, next, join_if, join_of, Chain}
-use Rattle.scan.specs.Sound.{pick, admit_of, open_by, scan_row, scan_rows, rows_in}
+use Rattle.scan.specs.Join.{Group, start, follows, next, join_if, join_of, Chain}
+use Rattle.scan.specs.Sound.{Scan, Bad, Open, Ended, pick, admit_of, open_by, scan_row, scan_rows, rows_in}
 use Rattle.rows.proofs.Pieces.{Even, chunks_even, chunks-joined}
 use Rattle.rows.proofs.Sounds.{AllSound}
 use Rattle.rows.proofs.Tables.{rows_length, rows_at, rows_encode}
@@ -66,7 +63,7 @@ no_version w z = go (sound_version (version_of w)) refl
 
 open_zero : (n : ℕ) (g : Group) (w : Words) → w.head ≡ 0 → scan_row (Open n g) w ≡ scan_row (Ended n) w
 unfolding scan_row admit_of
-open_zero n g w z = ap (λ (b : Bool). pick (is_blank w) (Ended n) (open_by n (join_if (spareless w && b) (join_of g (version_of w)) No)))
+open_zero n g w z = ap (λ (b : Bool). pick (is_blank w) (Ended n) (open_by n (join_if (spareless w && b) (join_of g (version_of w)) None)))
     (no_version w z) ∙ rw and-false
 
 head_used : (w : Words) → (w.head ≡ 0 → ⊥) → is_blank w ≡ false
@@ -92,12 +89,13 @@ module _ (t : List ℕ) (i : ℕ) (h : i < length t / ROW) where
         (sym (open_zero n g (words_in (row_at t i)) (rw hw at z)))
         ∙ sym (scan_step t i (Open n g) h)
 
-    pub open_next : (next : Group) → (w.head ≡ 0 → ⊥) → admit_of g w ≡ Yes next → scan_rows (Open (n + 1) next) (drop (i + 1) (pieces_of t))
+    pub open_next : (next : Group) → (w.head ≡ 0 → ⊥) → admit_of g w ≡ Some next
+        → scan_rows (Open (n + 1) next) (drop (i + 1) (pieces_of t))
         ≡ scan_rows (Open n g) (drop i (pieces_of t))
     unfolding scan_row
     open_next next u e = sym (scan_step t i (Open n g) h ∙ rw (sym hw, head_used w u, e))
 
-    pub open_bad : (w.head ≡ 0 → ⊥) → admit_of g w ≡ No → Bad ≡ scan_rows (Open n g) (drop i (pieces_of t))
+    pub open_bad : (w.head ≡ 0 → ⊥) → admit_of g w ≡ None → Bad ≡ scan_rows (Open n g) (drop i (pieces_of t))
     unfolding scan_row
     open_bad u e = sym (scan_step t i (Open n g) h ∙ rw (sym hw, head_used w u, e) (bad_stays (drop (i + 1) (pieces_of t))))
 

@@ -1,13 +1,9 @@
 -- What a scan carries from row to row, in two words. [V11]
 -- Assumes nothing.
-use Rattle.std.specs.Prelude.{ℕ, ◌+◌, ◌*◌, ◌/◌, ◌%◌, ◌<◌, Bool, eqb}
+use Rattle.std.specs.Prelude.{ℕ, ◌+◌, ◌*◌, ◌/◌, ◌%◌, ◌<◌, Bool, eqb, Option, None, Some}
 use Rattle.row.specs.Layout.{flag}
-use Rattle.scan.specs.declared.join.Group.{Group}
 use Rattle.scan.specs.declared.join.Bits.{Bits}
-use Rattle.scan.specs.declared.join.Joined.{Joined}
-use Rattle.scan.specs.declared.join.Joined.TheVariants.{No, Yes}
-use Rattle.scan.specs.declared.join.Next.{Next}
-use Rattle.scan.specs.declared.join.Next.TheVariants.{Stop, Go}
+use Rattle.scan.specs.Join.{Group}
 
 -- live 1, sending 2, worked 4
 abbrev pub bits_of : Bool → Bool → Bool → ℕ
@@ -25,11 +21,11 @@ is_work h = eqb (h / 4 % 2) 1
 unfoldable pub group_of : Bits → Group
 group_of s = record { last = s.last; live = is_live s.had; sends = is_sent s.had; worked = is_work s.had }
 
-abbrev pub joined_by : Next → Joined
-joined_by Stop = No
-joined_by (Go s) = Yes (group_of s)
+abbrev pub joined_by : Option Bits → Option Group
+joined_by None = None
+joined_by (Some s) = Some (group_of s)
 
 -- three marks
-abbrev pub Few : Next → Type 0
-Few Stop = Unit {0}
-Few (Go s) = s.had < 8
+abbrev pub Few : Option Bits → Type 0
+Few None = Unit {0}
+Few (Some s) = s.had < 8

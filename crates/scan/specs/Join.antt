@@ -1,12 +1,16 @@
 -- What a version must be to come next in a table. [T2, V11]
 -- Assumes nothing.
-use Rattle.std.specs.Prelude.{ℕ, ◌/◌, ◌≡◌, Bool, true, false, not, ◌&&◌, ◌||◌, List, [], ◌∷◌, eqb, ltb}
+use Rattle.std.specs.Prelude.{ℕ, ◌/◌, ◌≡◌, Bool, true, false, not, ◌&&◌, ◌||◌, List, [], ◌∷◌, eqb, ltb, Option, None, Some}
 use Rattle.model.specs.declared.Version.{Version}
 use Rattle.model.specs.Sound.{live, sends, worked}
 use Rattle.row.specs.Layout.{key_of}
-use Rattle.scan.specs.declared.join.Group.{Group}
-use Rattle.scan.specs.declared.join.Joined.{Joined}
-use Rattle.scan.specs.declared.join.Joined.TheVariants.{No, Yes}
+
+-- the last version's place in the order, and whether a version of its number is live, sending, worked
+pub record Group : Type 0 where
+  pub last : ℕ
+  pub live : Bool
+  pub sends : Bool
+  pub worked : Bool
 
 abbrev pub start : Group
 start = record { last = 0; live = false; sends = false; worked = false }
@@ -37,12 +41,12 @@ next g v = record {
   worked = either (same g.last v) g.worked (worked v);
 }
 
-abbrev pub join_if : Bool → Joined → Joined → Joined
+abbrev pub join_if : Bool → Option Group → Option Group → Option Group
 join_if true a b = a
 join_if false a b = b
 
-unfoldable pub join_of : Group → Version → Joined
-join_of g v = join_if (follows g v) (Yes (next g v)) No
+unfoldable pub join_of : Group → Version → Option Group
+join_of g v = join_if (follows g v) (Some (next g v)) None
 
 -- each version may follow the ones before it
 abbrev pub Chain : Group → List Version → Type 0

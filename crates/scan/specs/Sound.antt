@@ -1,32 +1,31 @@
 -- When a table is sound: a definition that goes row by row over the bytes, and what it means. [T1, T2, V1 to V11]
 -- Assumes nothing.
-use Rattle.std.specs.Prelude.{ℕ, ◌+◌, ◌*◌, ◌/◌, ◌%◌, ◌≤◌, ◌≡◌, Bool, true, false, ◌&&◌, List, [], ◌∷◌, eqb, leb, length}
+use Rattle.std.specs.Prelude.{ℕ, ◌+◌, ◌*◌, ◌/◌, ◌%◌, ◌≤◌, ◌≡◌, Bool, true, false, ◌&&◌, List, [], ◌∷◌, eqb, leb, length, Option, None, Some}
 use Rattle.model.specs.Sound.{sound_version, sound_table, most_rows}
 use Rattle.words.specs.declared.Words.{Words}
 use Rattle.words.specs.Size.{ROW}
 use Rattle.words.specs.Codec.{words_in, is_blank}
 use Rattle.row.specs.Layout.{version_of, spareless}
-use Rattle.scan.specs.declared.join.Group.{Group}
-use Rattle.scan.specs.declared.join.Joined.{Joined}
-use Rattle.scan.specs.declared.join.Joined.TheVariants.{No, Yes}
-use Rattle.scan.specs.declared.Scan.{Scan}
-use Rattle.scan.specs.declared.Scan.TheVariants.{Bad, Open, Ended}
-use Rattle.scan.specs.declared.Soundness.{Soundness}
-use Rattle.scan.specs.declared.Soundness.TheVariants.{Unsound, Sound}
-use Rattle.scan.specs.Join.{start, join_if, join_of}
+use Rattle.scan.specs.Join.{Group, start, join_if, join_of}
 use Rattle.rows.specs.Table.{pieces_of, decode, encode}
+
+-- what the rows so far say: unsound; all used, so many, the last of this group; or some used and then free ones
+pub data Scan : Type 0 where
+  Bad : Scan
+  Open : ℕ → Group → Scan
+  Ended : ℕ → Scan
 
 abbrev pub pick : Bool → Scan → Scan → Scan
 pick true a b = a
 pick false a b = b
 
 -- the words are a sound version's, which may follow
-unfoldable pub admit_of : Group → Words → Joined
-admit_of g w = join_if (spareless w && sound_version (version_of w)) (join_of g (version_of w)) No
+unfoldable pub admit_of : Group → Words → Option Group
+admit_of g w = join_if (spareless w && sound_version (version_of w)) (join_of g (version_of w)) None
 
-abbrev pub open_by : ℕ → Joined → Scan
-open_by n No = Bad
-open_by n (Yes g) = Open (n + 1) g
+abbrev pub open_by : ℕ → Option Group → Scan
+open_by n None = Bad
+open_by n (Some g) = Open (n + 1) g
 
 -- one row more: used rows first, free rows all zero
 unfoldable pub scan_row : Scan → Words → Scan
@@ -42,13 +41,13 @@ scan_rows s (b ∷ bs) = scan_rows (scan_row s (words_in b)) bs
 unfoldable pub scan_of : List ℕ → Scan
 scan_of t = pick (eqb (length t % ROW) 0) (pick (leb (length t) (most_rows * ROW)) (scan_rows (Open 0 start) (pieces_of t)) Bad) Bad
 
-abbrev pub said_by : Scan → Soundness
-said_by Bad = Unsound
-said_by (Open n g) = Sound n
-said_by (Ended n) = Sound n
+abbrev pub said_by : Scan → Option ℕ
+said_by Bad = None
+said_by (Open n g) = Some n
+said_by (Ended n) = Some n
 
--- sound, with so many used rows, or unsound
-unfoldable pub soundness_of : List ℕ → Soundness
+-- the used rows of a sound table, or none where it is unsound
+unfoldable pub soundness_of : List ℕ → Option ℕ
 soundness_of t = said_by (scan_of t)
 
 -- the rows of a table

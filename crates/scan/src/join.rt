@@ -1,49 +1,16 @@
 // What a version must be to come next: the order, and what the versions of one number may have at most once.
 ghost use Rattle.std.specs.Prelude.{◌≡◌, cond, ◌/◌, ◌<◌, eqb};
 ghost use Rattle.model.specs.Sound.{is_worked, live, sends, worked};
-ghost use Rattle.row.specs.Layout.{flag};
 ghost use Rattle.scan.specs.Join.{join_of};
 ghost use Rattle.scan.specs.Carried.{bits_of, group_of, joined_by, Few};
 
 use model::{Tn, Version, status};
 
-// The last version's place in the order, and whether a version of its number is live, sending, worked.
-#[derive(Clone, Copy)]
-pub struct Group {
-    pub last: u64,
-    pub live: bool,
-    pub sends: bool,
-    pub worked: bool,
-}
-
-#[derive(Clone, Copy)]
-pub enum Joined {
-    No,
-    Yes(Group),
-}
-
-// The same in two words: what the number has as bits.
-#[derive(Clone, Copy)]
+// The last version's place in the order, and as bits whether a version of its number is live, sending, worked.
+#[derive(Clone, Copy, Default)]
 pub struct Bits {
     pub last: u64,
     pub had: u64,
-}
-
-#[derive(Clone, Copy)]
-pub enum Next {
-    Stop,
-    Go(Bits),
-}
-
-pub fn group_of(s: Bits) -> Group
-    ensures { result ≡ group_of s }
-{
-    Group {
-        last: s.last,
-        live: s.had % 2 == 1,
-        sends: s.had / 2 % 2 == 1,
-        worked: s.had / 4 % 2 == 1,
-    }
 }
 
 // Pending, conflict or cancel-pending.
@@ -53,19 +20,13 @@ pub fn is_worked(s: u8) -> bool
     (s == status::PENDING) | ((s == status::CONFLICT) | (s == status::CANCEL_PENDING))
 }
 
-fn bit(b: bool) -> u64
-    ensures { (result ≡ flag b) × (result < 2) }
-{
-    if b { 1 } else { 0 }
-}
-
 // What v has of what a number may have once: live 1, sending 2, worked 4.
 fn bits_of(v: Version) -> u64
     ensures { (result ≡ bits_of (live v) (sends v) (worked v)) × (result < 8) }
 {
-    let live = bit(v.live);
-    let sends = bit(v.status == status::SENDING);
-    let worked = bit(is_worked(v.status));
+    let live = u64::from(v.live);
+    let sends = u64::from(v.status == status::SENDING);
+    let worked = u64::from(is_worked(v.status));
     live + sends * 2 + worked * 4
 }
 
@@ -77,7 +38,7 @@ fn had_of(s: Bits, tn: Tn) -> u64
     if tn.0 == s.last / 65536 { s.had } else { 0 }
 }
 
-pub fn follow(s: Bits, v: Version) -> Next
+pub fn follow(s: Bits, v: Version) -> Option<Bits>
     requires { (v.id.tn.0 < 17179869184) × (s.had < 8) }
     ensures { (joined_by result ≡ join_of (group_of s) v) × Few result }
 {
@@ -87,11 +48,11 @@ pub fn follow(s: Bits, v: Version) -> Next
     let had = had_of(s, tn);
     if s.last < last {
         if had & has == 0 {
-            return Next::Go(Bits {
+            return Some(Bits {
                 last,
                 had: had + has,
             });
         }
     }
-    Next::Stop
+    None
 }

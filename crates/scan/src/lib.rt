@@ -9,31 +9,16 @@ ghost use Rattle.rows.specs.Place.{row_at};
 ghost use Rattle.rows.specs.Table.{pieces_of};
 ghost use Rattle.scan.specs.Join.{start};
 ghost use Rattle.scan.specs.Carried.{group_of, joined_by, Few};
-ghost use Rattle.scan.specs.Sound.{admit_of, scan_rows, scan_of, soundness_of};
+ghost use Rattle.scan.specs.Sound.{Open, Ended, admit_of, scan_rows, said_by, soundness_of};
 
-use crate::join::{Bits, Group, Next};
+use crate::join::Bits;
 use model::limit;
 use words::{ROW, Words};
 
 pub mod join;
 
-// What the rows so far say: unsound; all used, so many, the last of this group; or some used and then free ones.
-#[derive(Clone, Copy)]
-pub enum Scan {
-    Bad,
-    Open { used: usize, group: Group },
-    Ended { used: usize },
-}
-
-// What a whole table is.
-#[derive(Clone, Copy)]
-pub enum Soundness {
-    Unsound,
-    Sound { used: usize },
-}
-
 // A row that is not free.
-fn admit(s: Bits, w: Words) -> Next
+fn admit(s: Bits, w: Words) -> Option<Bits>
     requires { s.had < 8 }
     ensures { (joined_by result ≡ admit_of (group_of s) w) × Few result }
 {
@@ -43,7 +28,7 @@ fn admit(s: Bits, w: Words) -> Next
             return join::follow(s, v);
         }
     }
-    Next::Stop
+    None
 }
 
 // Whether a row's bytes are all zero. Only compared with zero, its words are read many at a time.
@@ -63,6 +48,7 @@ fn zeros(b: &[u8]) -> bool
         & (octets::u64_at(b, 72) == 0)
 }
 
+// Whether row i is free.
 fn free(t: &[u8], i: usize) -> bool
     requires { i * ROW + ROW ≤ length t.now }
     ensures { result ≡ is_blank (words_in (row_at t.now i)) }
@@ -73,63 +59,42 @@ fn free(t: &[u8], i: usize) -> bool
 }
 
 // After so many used rows: all others are free, or the table is unsound.
-fn ended(t: &[u8], used: usize) -> Scan
-    ensures { result ≡ scan_rows (Scan.Ended used) (drop used (pieces_of t.now)) }
+fn ended(t: &[u8], used: usize) -> Option<usize>
+    ensures { result ≡ said_by (scan_rows (Ended used) (drop used (pieces_of t.now))) }
 {
-    let n = t.len() / ROW;
-    let mut i = used;
-    while i < n {
+    for i in used..t.len() / ROW {
         if !free(t, i) {
-            return Scan::Bad;
+            return None;
         }
-        i += 1;
     }
-    Scan::Ended { used }
+    Some(used)
 }
 
 // The used rows, up to the first that is free or unsound. A row whose first word is 0 is no used one.
-fn over(t: &[u8]) -> Scan
+fn over(t: &[u8]) -> Option<usize>
     requires { length t.now ≤ most_rows * ROW }
-    ensures { result ≡ scan_rows (Scan.Open 0 start) (pieces_of t.now) }
+    ensures { result ≡ said_by (scan_rows (Open 0 start) (pieces_of t.now)) }
 {
     let n = t.len() / ROW;
-    let mut s = Bits { last: 0, had: 0 };
-    let mut i = 0;
-    while i < n {
+    let mut s = Bits::default();
+    for i in 0..n {
         let w = rows::words(t, i);
         if w.head == 0 {
             return ended(t, i);
         }
-        let j = admit(s, w);
-        let Next::Go(next) = j else {
-            return Scan::Bad;
-        };
-        s = next;
-        i += 1;
+        s = admit(s, w)?;
     }
-    let group = join::group_of(s);
-    Scan::Open { used: i, group }
+    Some(n)
 }
 
-fn whole(t: &[u8]) -> Scan
-    ensures { result ≡ scan_of t.now }
+// How many rows of a sound table are used. Any bytes may be lent: of those of no sound table there is no such number.
+pub fn verdict(t: &[u8]) -> Option<usize>
+    ensures { result ≡ soundness_of t.now }
 {
     if t.len() % ROW == 0 {
         if t.len() <= limit::ROWS * ROW {
             return over(t);
         }
     }
-    Scan::Bad
-}
-
-// Whether any bytes are a sound table, and how many of its rows are used.
-pub fn verdict(t: &[u8]) -> Soundness
-    ensures { result ≡ soundness_of t.now }
-{
-    let s = whole(t);
-    match s {
-        Scan::Bad => Soundness::Unsound,
-        Scan::Open { used, group: _ } => Soundness::Sound { used },
-        Scan::Ended { used } => Soundness::Sound { used },
-    }
+    None
 }

@@ -44,6 +44,7 @@ pub fn retries_in_range(r: Retries) -> bool
 }
 
 // Whether each of 21 digits is 0 or its system is in the set, whose place 0 is the first of them; done where all digits left are 0.
+// Kept: the loop counts no index, and ends where no digit is left; a `for` over 21 places is no plainer.
 fn digits_wait(word: u64, set: u64) -> bool
     requires { word < 9223372036854775808 }
     ensures { result ≡ digits_wait 21 word set }
@@ -90,12 +91,8 @@ fn used_fit(c: Broadcast) -> bool
 pub fn retries_sound(c: Broadcast) -> bool
     ensures { result ≡ retries_sound c }
 {
-    if c.retries.low == 0 {
-        if c.retries.mid == 0 {
-            if c.retries.high == 0 {
-                return true;
-            }
-        }
+    if c.retries == Retries::default() {
+        return true;
     }
     used_fit(c)
 }

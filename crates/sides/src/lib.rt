@@ -8,6 +8,7 @@ ghost use Rattle.model.specs.Creates.{no_broadcast, fresh_numbered, fits, first_
 ghost use Rattle.model.specs.Changes.{new_modified, old_modified, modified, turned, cancelled, acknowledged, own_cancel, resolved};
 ghost use Rattle.model.specs.Changes.{window_turned, window_marked, window_spent, awaits_old};
 ghost use Rattle.model.specs.Standing.{standing_of};
+ghost use Rattle.model.specs.Versions.{rerouted, reauthorized};
 
 use model::{
     Broadcast, Event, Id, Lrn, NewSide, OldSide, Retries, Version, canceller, kind, mark, purpose,
@@ -27,6 +28,7 @@ fn standing_by(npac: bool, new: bool, old: bool) -> u8
 }
 
 // 0 the new side, 1 the old side, 2 the NPAC, 3 any other sender.
+#[tactic(auto, unfolding(model::specs::Standing::standing_of))]
 pub fn standing_of(e: Event, v: Version) -> u8
     ensures { (result ≡ standing_of e v) × (result < 4) }
 {
@@ -61,13 +63,12 @@ pub fn old_in(e: Event) -> u8
 fn new_joined(e: Event, s: NewSide) -> NewSide
     ensures { result ≡ new_joined e s }
 {
-    let lrn = e.lrn;
     if e.kind == kind::NEW_CREATES {
         NewSide {
-            provider: s.provider,
             created: true,
-            lrn,
+            lrn: e.lrn,
             due: e.due,
+            ..s
         }
     } else {
         s
@@ -81,11 +82,11 @@ fn old_joined(e: Event, s: OldSide) -> OldSide
         s
     } else {
         OldSide {
-            provider: s.provider,
             created: true,
             authorization: e.mark,
             cause: e.cause,
             due: e.due,
+            ..s
         }
     }
 }
@@ -112,6 +113,7 @@ fn has_joined(e: Event, v: Version) -> bool
 }
 
 // Whether this create fits a worked version.
+#[tactic(auto, unfolding(model::specs::Creates::fits))]
 pub fn fits(e: Event, v: Version) -> bool
     ensures { result ≡ fits e v }
 {
@@ -140,17 +142,18 @@ pub fn agrees(e: Event, v: Version) -> bool
 }
 
 // A worked version takes the values of the side that concurs.
+#[tactic(auto, unfolding(model::specs::Creates::concurred))]
 pub fn concurred(e: Event, v: Version) -> Version
     ensures { result ≡ concurred e v }
 {
-    let new = new_joined(e, v.new);
     let old = old_joined(e, v.old);
-    let mut w = v;
-    w.status = status_by(old, v.status);
-    w.stamp = e.time;
-    w.new = new;
-    w.old = old;
-    w
+    Version {
+        status: status_by(old, v.status),
+        stamp: e.time,
+        new: new_joined(e, v.new),
+        old,
+        ..v
+    }
 }
 
 // A side that has not created.
@@ -200,11 +203,7 @@ pub fn fresh(e: Event, number: u16) -> Version
             confirmed: 0,
             waiting: 0,
             failed: 0,
-            retries: Retries {
-                low: 0,
-                mid: 0,
-                high: 0,
-            },
+            retries: Retries::default(),
         },
     }
 }
@@ -220,41 +219,58 @@ fn status_of(mark: u8) -> u8
     }
 }
 
+// A side with other values.
+fn rerouted(s: NewSide, lrn: Lrn, due: u32) -> NewSide
+    ensures { result ≡ rerouted s lrn due }
+{
+    NewSide { lrn, due, ..s }
+}
+
+fn reauthorized(s: OldSide, authorization: u8, cause: u8, due: u32) -> OldSide
+    ensures { result ≡ reauthorized s authorization cause due }
+{
+    OldSide {
+        authorization,
+        cause,
+        due,
+        ..s
+    }
+}
+
 // 3 replaces LRN and due; 4 replaces its three values.
+#[tactic(auto, unfolding(model::specs::Changes::new_modified, model::specs::Changes::old_modified))]
 pub fn modified(e: Event, v: Version) -> Version
     ensures { result ≡ modified e v }
 {
-    let lrn = e.lrn;
-    let mut w = v;
-    w.stamp = e.time;
     if e.kind == kind::NEW_MODIFIES {
-        let mut new = v.new;
-        new.lrn = lrn;
-        new.due = e.due;
-        w.new = new;
-        return w;
+        return Version {
+            stamp: e.time,
+            new: rerouted(v.new, e.lrn, e.due),
+            ..v
+        };
     }
-    w.status = status_of(e.mark);
-    let mut old = v.old;
-    old.authorization = e.mark;
-    old.cause = e.cause;
-    old.due = e.due;
-    w.old = old;
-    w
+    Version {
+        status: status_of(e.mark),
+        stamp: e.time,
+        old: reauthorized(v.old, e.mark, e.cause, e.due),
+        ..v
+    }
 }
 
 fn turned(e: Event, v: Version, status: u8, canceller: u8, window: bool) -> Version
     ensures { result ≡ turned e v status canceller window }
 {
-    let mut w = v;
-    w.status = status;
-    w.stamp = e.time;
-    w.canceller = canceller;
-    w.window = window;
-    w
+    Version {
+        status,
+        stamp: e.time,
+        canceller,
+        window,
+        ..v
+    }
 }
 
 // One side created: canceled. Both: cancel-pending, canceller marked.
+#[tactic(auto, unfolding(model::specs::Changes::cancelled))]
 pub fn cancelled(e: Event, v: Version) -> Version
     ensures { result ≡ cancelled e v }
 {
@@ -265,6 +281,7 @@ pub fn cancelled(e: Event, v: Version) -> Version
     turned(e, v, status::CANCELED, v.canceller, v.window)
 }
 
+#[tactic(auto, unfolding(model::specs::Changes::acknowledged))]
 pub fn acknowledged(e: Event, v: Version) -> Version
     ensures { result ≡ acknowledged e v }
 {
@@ -272,6 +289,7 @@ pub fn acknowledged(e: Event, v: Version) -> Version
 }
 
 // An acknowledgement by the canceller itself.
+#[tactic(auto, unfolding(model::specs::Changes::own_cancel))]
 pub fn own_cancel(e: Event, v: Version) -> bool
     ensures { result ≡ own_cancel e v }
 {
@@ -279,17 +297,16 @@ pub fn own_cancel(e: Event, v: Version) -> bool
     v.canceller == side + 1
 }
 
+#[tactic(auto, unfolding(model::specs::Changes::resolved))]
 pub fn resolved(e: Event, v: Version) -> Version
     ensures { result ≡ resolved e v }
 {
-    let mut w = v;
-    w.status = status::PENDING;
-    w.stamp = e.time;
-    let mut old = v.old;
-    old.authorization = mark::YES;
-    old.cause = 0;
-    w.old = old;
-    w
+    Version {
+        status: status::PENDING,
+        stamp: e.time,
+        old: reauthorized(v.old, mark::YES, 0, v.old.due),
+        ..v
+    }
 }
 
 // The window is the old side's: pending, and the new side has created.
@@ -299,6 +316,7 @@ pub fn window_marks(v: Version) -> bool
     (v.status == status::PENDING) & v.new.created
 }
 
+#[tactic(auto, unfolding(model::specs::Changes::window_spent))]
 pub fn window_spent(v: Version) -> bool
     ensures { result ≡ window_spent v }
 {
@@ -316,6 +334,7 @@ fn withdrawn_to(canceller: u8) -> u8
     }
 }
 
+#[tactic(auto, unfolding(model::specs::Changes::window_turned))]
 pub fn window_turned(e: Event, v: Version) -> Version
     ensures { result ≡ window_turned e v }
 {
@@ -325,6 +344,7 @@ pub fn window_turned(e: Event, v: Version) -> Version
     turned(e, v, status::CANCELED, v.canceller, v.window)
 }
 
+#[tactic(auto, unfolding(model::specs::Changes::window_marked))]
 pub fn window_marked(e: Event, v: Version) -> Version
     ensures { result ≡ window_marked e v }
 {

@@ -1,5 +1,5 @@
 // What a version's status, marks and purpose may be together: all clauses on them in one look.
-ghost use Rattle.std.specs.Prelude.{◌≡◌, cond, ◌≤◌, get_or};
+ghost use Rattle.std.specs.Prelude.{◌≡◌, ◌≤◌, get_or};
 ghost use Rattle.model.specs.Sound.{last_status, disconnect};
 ghost use Rattle.sound.specs.Marks.{fit_bits, marks_fit};
 
@@ -25,20 +25,14 @@ fn places(status: u8) -> u64
     }
 }
 
-fn bit(b: bool) -> u8
-    ensures { (result ≡ cond b 1 0) × (result ≤ 1) }
-{
-    if b { 1 } else { 0 }
-}
-
 pub fn marks_fit(v: Version) -> bool
     requires { (v.status ≤ last_status) × (v.cast.purpose ≤ disconnect) }
     ensures { result ≡ marks_fit v }
 {
     let places = places(v.status);
-    let live = bit(v.live);
-    let new = bit(v.new.created);
-    let old = bit(v.old.created);
+    let live = u8::from(v.live);
+    let new = u8::from(v.new.created);
+    let old = u8::from(v.old.created);
     let place = v.cast.purpose * 8 + live * 4 + new * 2 + old;
     (places >> place) % 2 == 1
 }

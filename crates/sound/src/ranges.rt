@@ -1,16 +1,10 @@
 // Values in their ranges.
 ghost use Rattle.std.specs.Prelude.{◌≡◌};
-ghost use Rattle.model.specs.Numbers.{ten_digits, is_provider, is_time, is_number};
+ghost use Rattle.model.specs.Numbers.{is_provider, is_time, is_number};
 ghost use Rattle.sound.specs.Order.{outline_fits};
 
+pub use kinds::ten_digits;
 use model::{Version, canceller, limit, purpose, status};
-
-// Ten digits, the first and the fourth of them 2 to 9: the last seven say 2,000,000 or more.
-pub fn ten_digits(x: u64) -> bool
-    ensures { result ≡ ten_digits x }
-{
-    (2000000000 <= x) & (x < 10000000000) & (2000000 <= x % 10000000)
-}
 
 pub fn is_time(t: u32) -> bool
     ensures { result ≡ is_time t }

@@ -1,3 +1,4 @@
 pub mod Halves
 pub mod Scanning
 pub mod Soundness
+pub mod Keeping

@@ -1,11 +1,12 @@
 // Whether bytes are sound books: one pass over each list of places. [B1, B2, B3, B4]
 #![tactic(auto)]
 
-ghost use Rattle.std.specs.Prelude.{◌≡◌, ◌+◌, ◌*◌, ◌≤◌, eqb, length};
+ghost use Rattle.std.specs.Prelude.{◌≡◌, ◌+◌, ◌*◌, ◌≤◌, eqb, length, Bool};
+ghost use Rattle.model.specs.declared.Marks.{Marks};
 ghost use Rattle.books.specs.Packed.{book_bytes, row_places, split_places, place_of, head_of, split_place, sound_bytes};
 ghost use Rattle.books.specs.Places.{rest_of};
 ghost use Rattle.soundbooks.specs.Scan.{scan};
-ghost use Rattle.soundbooks.specs.Sound.{row_test, apart_from, good_split, split_test};
+ghost use Rattle.soundbooks.specs.Sound.{row_test, RowsBy, apart_from, good_split, split_test, kept_by};
 
 use model::Marks;
 use places::{blanks, entries};
@@ -15,8 +16,7 @@ fn apart(books: &[u8], one: u64, other: u64, i: usize) -> bool
     requires { length books.now ≡ book_bytes }
     ensures { result ≡ apart_from one other (rest_of (split_place books.now) split_places i) }
 {
-    let mut k = i;
-    while k < books::SPLIT_PLACES {
+    for k in i..books::SPLIT_PLACES {
         let a = octets::u32_at(books, books::SPLITS_AT + 8 * k);
         let b = octets::u32_at(books, books::SPLITS_AT + 8 * k + 4);
         if (a == 0) & (b == 0) {
@@ -28,7 +28,6 @@ fn apart(books: &[u8], one: u64, other: u64, i: usize) -> bool
         if entries::has_code(a, b, other) {
             return false;
         }
-        k += 1;
     }
     true
 }
@@ -46,20 +45,20 @@ fn good_split(books: &[u8], w: u64, i: usize) -> bool
     (one != other) & clear & (known & known_other)
 }
 
-// One pass over the filters or the codes: places of four bytes from at. A place is tested one turn after it is read: so the compiler reads
-// it with one load.
-fn sound_rows(filters: bool, marks: Marks, books: &[u8], at: usize) -> bool
-    requires { at + 4 * row_places + 4 ≤ length books.now }
-    ensures { result ≡ scan (row_test filters marks) (place_of 4 at books.now) row_places 0 0 }
+// One pass over the codes or the filters: places of four bytes from at, each good behind the one before it.
+fn sound_rows<F: Fn(u64, u64) -> bool>(books: &[u8], at: usize, good: F) -> bool
+    requires { (at + 4 * row_places + 4 ≤ length books.now) × F.IsAlwaysCallable good }
+    ensures { (f : Bool) (m : Marks) → RowsBy (F.post good) f m → result ≡ scan (row_test f m) (place_of 4 at books.now) row_places 0 0 }
 {
     let mut last: u64 = 0;
     let mut w = octets::u32_at(books, at);
     let mut i: usize = 0;
+    // Kept: a place is tested one turn after it is read, so that the compiler reads it with one load.
     while i < books::ROW_PLACES {
         if w == 0 {
             return blanks::free_rows(books, at, i + 1);
         }
-        if !entries::good_row(filters, marks, last, w) {
+        if !good(last, w) {
             return false;
         }
         last = w;
@@ -74,14 +73,12 @@ fn sound_splits(books: &[u8]) -> bool
     requires { length books.now ≡ book_bytes }
     ensures { result ≡ scan split_test (split_place books.now) split_places 0 0 }
 {
-    let mut i: usize = 0;
-    while i < books::SPLIT_PLACES {
+    for i in 0..books::SPLIT_PLACES {
         let w = octets::u64_at(books, books::SPLITS_AT + 8 * i);
-        i += 1;
         if w == 0 {
-            return blanks::free(books, books::SPLITS_AT, books::SPLIT_PLACES, i);
+            return blanks::free(books, books::SPLITS_AT, books::SPLIT_PLACES, i + 1);
         }
-        if !good_split(books, w, i) {
+        if !good_split(books, w, i + 1) {
             return false;
         }
     }
@@ -109,11 +106,31 @@ pub fn sound(marks: Marks, books: &[u8]) -> bool
     if !providers::sound(marks) {
         return false;
     }
-    if !sound_rows(false, marks, books, books::CODES_AT) {
+    if !sound_rows(
+        books,
+        books::CODES_AT,
+        |last, w| entries::good_code(marks, last, w),
+    ) {
         return false;
     }
-    if !sound_rows(true, marks, books, books::FILTERS_AT) {
+    if !sound_rows(
+        books,
+        books::FILTERS_AT,
+        |last, w| entries::good_filter(marks, last, w),
+    ) {
         return false;
     }
     sound_splits(books)
+}
+
+// The marks of a provider list that is sound, where the bytes are sound books with them.
+pub fn kept(marks: Option<Marks>, books: &[u8]) -> Option<Marks>
+    ensures { result ≡ kept_by marks books.now }
+{
+    let marks = marks?;
+    if sound(marks, books) {
+        Some(marks)
+    } else {
+        None
+    }
 }

@@ -23,6 +23,7 @@ pub fn has(s: u64, p: u8) -> bool
 }
 
 // s with p, which it lacks.
+#[tactic(auto, using(crate::proofs::Laws::out_fits))]
 pub fn with(s: u64, p: u8) -> u64
     requires { (p < 64) × (member s p ≡ false) }
     ensures { result ≡ s + 2 ^ p }
@@ -31,6 +32,7 @@ pub fn with(s: u64, p: u8) -> u64
 }
 
 // s without p, which it has.
+#[tactic(auto, using(crate::proofs::Laws::in_le))]
 pub fn without(s: u64, p: u8) -> u64
     requires { (p < 64) × (member s p ≡ true) }
     ensures { result ≡ s - 2 ^ p }
@@ -39,6 +41,7 @@ pub fn without(s: u64, p: u8) -> u64
 }
 
 // How many providers s has, for any s: its ones above place 0.
+#[tactic(auto, using(crate::proofs::Laws::count_ones))]
 pub fn size(s: u64) -> u32
     ensures { result ≡ count s 63 }
 {
@@ -46,6 +49,7 @@ pub fn size(s: u64) -> u32
 }
 
 // Those providers that are in both sets, for any two: the common ones above place 0.
+#[tactic(auto, using(crate::proofs::Laws::meet_and))]
 pub fn meet(a: u64, b: u64) -> u64
     ensures { result ≡ meet a b }
 {

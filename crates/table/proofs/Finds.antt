@@ -11,6 +11,7 @@ use borrow.Author.Tests.{lt-ltb, le-ltb, ltb-true, ltb-false}
 use lib.Dec.{ltb}
 use lib.ListN.{length, get_or, length-map}
 use Rattle.words.specs.Size.{ROW}
+use Rattle.words.specs.Codec.{words_in}
 use Rattle.rows.specs.Place.{row_at}
 use Rattle.rows.specs.Chunks.{chunks}
 use Rattle.table.specs.Find.{key_in, key_at, keys_of, Rises, past, lower_of}
@@ -24,6 +25,11 @@ keys_length n t = length-map (chunks ROW n t) key_in ∙ chunks-length ROW n t
 pub keys_at : (n : ℕ) (t : List ℕ) (i : ℕ) → i < n → get_or (keys_of n t) i 0 ≡ key_at t i
 unfolding keys_of key_at row_at
 keys_at n t i h = get_d_map key_in (chunks ROW n t) i [] 0 (rw (chunks-length ROW n t) h) ∙ ap key_in (get_d_chunks ROW n i t h)
+
+-- the key of a row, by its first word
+pub head_says : (t : List ℕ) (i w : ℕ) → w ≡ (words_in (row_at t i)).head → w / 16384 ≡ key_at t i
+unfolding key_at
+head_says t i w e = ap (λ (k : ℕ). k / 16384) e
 
 -- what is true of a lower bound, and of nothing else
 pub lower_is : (k : ℕ) (xs : List ℕ) (r : ℕ) → r ≤ length xs → ((p : ℕ) → p < r → get_or xs p 0 < k)

@@ -2,7 +2,8 @@
 -- Assumes nothing.
 use mathlib.Core.Path.{◌≡◌, refl, sym, ap, ◌∙◌}
 use mathlib.Core.Bool.{Bool, true, false}
-use mathlib.Core.Option.{Option}
+use mathlib.Core.Option as model
+use Rattle.std.specs.Prelude.{Option, Some, None}
 use mathlib.Core.List.{List}
 use Prim.Native.Nat.{ℕ, ◌≤◌, ◌<◌}
 use native.Mathlib.Omega.{arith}
@@ -12,8 +13,7 @@ use lib.ListN.{length}
 use Rattle.model.specs.declared.Version.{Version}
 use Rattle.model.specs.Sound.{sound_table}
 use Rattle.model.proofs.Lists.{nothing_some}
-use Rattle.table.specs.declared.survey.Seen.{Seen}
-use Rattle.table.specs.declared.survey.Seen.TheVariants.{Nobody, One}
+use Rattle.table.specs.declared.survey.Placed.{Placed}
 use Rattle.table.specs.declared.survey.Facts.{Facts}
 use Rattle.table.specs.Find.{key_for}
 use Rattle.scan.specs.Sound.{itself}
@@ -37,14 +37,14 @@ one_place t r i j h l e = go (ltb i j) refl (ltb j i) refl
         let y : i ≤ j = ltb-false j i q in
         omega arith
 
-found_one : (t : List Version) → RisingFrom 0 t → (s u : Seen) (o : Option Version) → Found t s o → Found t u o → s ≡ u
-found_one t r Nobody Nobody o f g = refl
-found_one t r Nobody (One j w) o f g = absurd (nothing_some (f.is ∙ sym g.is))
-found_one t r (One i v) Nobody o f g = absurd (nothing_some (g.is ∙ sym f.is))
-found_one t r (One i v) (One j w) o f g =
-    let e : v ≡ w = cc (f.is ∙ sym g.is) in
-    let p : i ≡ j = one_place t r i j f.stands.0 g.stands.0 (f.stands.1 ∙ e ∙ sym g.stands.1) in
-    λ x. One (p x) (e x)
+found_one : (t : List Version) → RisingFrom 0 t → (s u : Option Placed) (o : model.Option Version) → Found t s o → Found t u o → s ≡ u
+found_one t r None None o f g = refl
+found_one t r None (Some q) o f g = absurd (nothing_some (f.is ∙ sym g.is))
+found_one t r (Some p) None o f g = absurd (nothing_some (g.is ∙ sym f.is))
+found_one t r (Some p) (Some q) o f g =
+    let e : p.version ≡ q.version = cc (f.is ∙ sym g.is) in
+    let a : p.at ≡ q.at = one_place t r p.at q.at f.stands.0 g.stands.0 (f.stands.1 ∙ e ∙ sym g.stands.1) in
+    λ x. Some (record { at = a x; version = e x })
 
 pub surveyed_one : (rows : ℕ) (t : List Version) → sound_table itself rows t ≡ true
     → (r : List Version) (k : ℕ) (create : Bool) (f g : Facts)

@@ -14,7 +14,7 @@ use Rattle.model.specs.Table.{find, change, changes, put, add, strike}
 use Rattle.model.specs.Sound.{sound_table}
 use Rattle.words.specs.Size.{ROW}
 use Rattle.row.specs.Layout.{pack}
-use Rattle.scan.specs.declared.Soundness.TheVariants.{Sound}
+use Rattle.std.specs.Prelude.{Some}
 use Rattle.rows.specs.Place.{put_row, ins_row, del_row}
 use Rattle.rows.specs.Table.{pieces_of, decode, encode}
 use Rattle.table.specs.Find.{key_for, place_in}
@@ -108,15 +108,15 @@ pub record Made (t : List ℕ) (n : ℕ) : Type 0 where
   pub sound : sound_table itself rows versions ≡ true
   pub count : length versions ≡ n
 
-pub sound_exactly : (t : List ℕ) (n : ℕ) → Bytes t → (soundness_of t ≡ Sound n → Made t n) × (Made t n → soundness_of t ≡ Sound n)
+pub sound_exactly : (t : List ℕ) (n : ℕ) → Bytes t → (soundness_of t ≡ Some n → Made t n) × (Made t n → soundness_of t ≡ Some n)
 sound_exactly t n y = (
   λ e.
       let s = sound_says t n y e in
       record { versions = decode t; rows = rows_in t; is = s.is; sound = s.sound; count = s.count },
-  λ m. ap soundness_of m.is ∙ says_sound m.versions m.rows m.sound ∙ ap Sound m.count,
+  λ m. ap soundness_of m.is ∙ says_sound m.versions m.rows m.sound ∙ ap Some m.count,
 )
 
 -- no rows at all is a table too
-pub empty_sound : soundness_of [] ≡ Sound 0
+pub empty_sound : soundness_of [] ≡ Some 0
 unfolding soundness_of scan_of scan_rows pieces_of
 empty_sound = refl

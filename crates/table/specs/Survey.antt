@@ -1,7 +1,8 @@
 -- What the versions of one line have together, and of which the rules speak. [R2, Q1, C1, C2, W4]
 -- Assumes nothing.
-use Rattle.std.specs.Prelude.{ℕ, ◌<◌, ◌≡◌, Bool, cond, ◌||◌, List, [], ◌∷◌, ◌++◌, eqb, ltb, length, get_or}
-use Rattle.std.proofs.Math.Option.{Option, none, some}
+use Rattle.std.specs.Prelude.{ℕ, ◌<◌, ◌≡◌, Bool, cond, ◌||◌, List, [], ◌∷◌, ◌++◌, eqb, ltb, length, get_or, Option, Some, None}
+use Rattle.std.proofs.Math.Option.{none, some}
+use Rattle.std.proofs.Math.Option as model
 use Rattle.model.specs.declared.Version.{Version}
 use Rattle.model.specs.Basics.{any, keep, first, largest}
 use Rattle.model.specs.Table.{rows_of}
@@ -10,8 +11,7 @@ use Rattle.model.specs.Sound.{live, sends, worked}
 use Rattle.row.specs.Layout.{unpack}
 use Rattle.scan.specs.Sound.{itself}
 use Rattle.table.specs.declared.survey.Pass.{Pass}
-use Rattle.table.specs.declared.survey.Seen.{Seen}
-use Rattle.table.specs.declared.survey.Seen.TheVariants.{Nobody, One}
+use Rattle.table.specs.declared.survey.Placed.{Placed}
 use Rattle.table.specs.declared.survey.Facts.{Facts}
 
 -- ---- a version that was seen
@@ -20,29 +20,33 @@ use Rattle.table.specs.declared.survey.Facts.{Facts}
 abbrev pub version_at : List Version → ℕ → Version
 version_at t i = get_or t i (unpack [])
 
+-- a version at its place
+abbrev pub at_place : ℕ → Version → Placed
+at_place i v = record { at = i; version = v }
+
 -- the version that was seen
-abbrev pub the_one : Seen → Option Version
-the_one Nobody = none
-the_one (One i v) = some v
+abbrev pub the_one : Option Placed → model.Option Version
+the_one None = none
+the_one (Some p) = some p.version
 
 -- and as a list
-abbrev pub list_of : Option Version → List Version
+abbrev pub list_of : model.Option Version → List Version
 list_of none = []
 list_of (some v) = v ∷ []
 
 -- it stands where it was seen
-abbrev pub Stands : List Version → Seen → Type 0
-Stands t Nobody = Unit {0}
-Stands t (One i v) = (i < length t) × (version_at t i ≡ v)
+abbrev pub Stands : List Version → Option Placed → Type 0
+Stands t None = Unit {0}
+Stands t (Some p) = (p.at < length t) × (version_at t p.at ≡ p.version)
 
 -- a version was found, at its place
-pub record Found (t : List Version) (s : Seen) (o : Option Version) : Type 0 where
+pub record Found (t : List Version) (s : Option Placed) (o : model.Option Version) : Type 0 where
   pub is : the_one s ≡ o
   pub stands : Stands t s
 
 -- the version at a place, or nobody where the place is none of n
-abbrev pub seen_at : List Version → ℕ → ℕ → Seen
-seen_at t n i = cond (ltb i n) (One i (version_at t i)) Nobody
+abbrev pub seen_at : List Version → ℕ → ℕ → Option Placed
+seen_at t n i = cond (ltb i n) (Some (at_place i (version_at t i))) None
 
 -- ---- the rows of a line
 

@@ -35,8 +35,7 @@ fn add_new(t: &mut [u8], n: usize, v: Version)
     requires fresh { Fresh (decode t.old) n (rows_in t.old) v }
     ensures { t.new ≡ encode (change (add v) (decode t.old)) (rows_in t.old) }
 {
-    let id = v.id;
-    let i = find::place(t, n, id);
+    let i = find::place(t, n, v.id);
     rows::insert(t, i, n, v);
 }
 

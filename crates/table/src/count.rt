@@ -22,14 +22,12 @@ fn upward(t: &[u8], from: usize) -> usize
     ensures { (length (decode t.now) ≤ result) × (result ≤ rows_in t.now) }
 {
     let rows = t.len() / ROW;
-    let mut n = from;
-    while n < rows {
+    for n in from..rows {
         if free(t, n) {
             return n;
         }
-        n += 1;
     }
-    n
+    rows
 }
 
 // The used rows, where all rows from a place on are free.
@@ -37,14 +35,12 @@ fn downward(t: &[u8], from: usize) -> usize
     requires { SoundTable t.now (length (decode t.now)) × (length (decode t.now) ≤ from) × (from ≤ rows_in t.now) }
     ensures { result ≡ length (decode t.now) }
 {
-    let mut n = from;
-    while 0 < n {
-        if !free(t, n - 1) {
-            return n;
+    for n in (0..from).rev() {
+        if !free(t, n) {
+            return n + 1;
         }
-        n -= 1;
     }
-    n
+    0
 }
 
 // How many rows are used: a few rows near the place are read where few rows came or went.

@@ -1,5 +1,5 @@
 // What the versions of one line have together: one pass over their rows, from the last to the first.
-ghost use Rattle.std.specs.Prelude.{◌≡◌, cond, List, [], ℕ, ◌+◌, ◌*◌, ◌≤◌, ◌<◌, max};
+ghost use Rattle.std.specs.Prelude.{◌≡◌, cond, List, [], ℕ, ◌+◌, ◌*◌, ◌≤◌, ◌<◌};
 ghost use Rattle.std.proofs.Math.Seq.{slice};
 ghost use Rattle.model.specs.Table.{rows_of};
 ghost use Rattle.rows.specs.Table.{decode};
@@ -7,15 +7,15 @@ ghost use Rattle.scan.specs.Sound.{SoundTable, itself};
 ghost use Rattle.model.specs.declared.Version.{Version};
 ghost use Rattle.table.specs.Survey.{seen_at, facts_at, Summed, Adds, rows_beyond, rows_under, Surveyed};
 
-use crate::find;
+use crate::{Table, find};
 use model::{Tn, Version, status};
 use scan::join;
 
 // A version, with its place.
 #[derive(Clone, Copy)]
-pub enum Seen {
-    Nobody,
-    One(usize, Version),
+pub struct Placed {
+    pub at: usize,
+    pub version: Version,
 }
 
 // Of the versions of a line: the newest number, the largest stamp, whether one is sending. For a create the live one and the worked one.
@@ -27,22 +27,10 @@ pub struct Facts {
     pub stamp: u32,
     pub sends: bool,
     pub blocked: bool,
-    pub former: Seen,
-    pub live: Seen,
-    pub worked: Seen,
-    pub asked: Seen,
-}
-
-fn larger16(a: u16, b: u16) -> u16
-    ensures { result ≡ max a b }
-{
-    if a < b { b } else { a }
-}
-
-fn larger32(a: u32, b: u32) -> u32
-    ensures { result ≡ max a b }
-{
-    if a < b { b } else { a }
+    pub former: Option<Placed>,
+    pub live: Option<Placed>,
+    pub worked: Option<Placed>,
+    pub asked: Option<Placed>,
 }
 
 // Place i where its version passes, else the one before. A number, so that it is taken without a branch.
@@ -52,15 +40,15 @@ fn first(passes: bool, i: usize, p: usize) -> usize
     if passes { i } else { p }
 }
 
-// The version at a place, or nobody where the place is none of the n used ones.
-fn look(t: &[u8], n: usize, i: usize) -> Seen
-    requires { SoundTable t.now n }
-    ensures { result ≡ seen_at (decode t.now) n i }
+// The version at a place, or nobody where the place is none of the used ones.
+fn look(t: &Table, i: usize) -> Option<Placed>
+    ensures { result ≡ seen_at (decode t.now.bytes.now) t.now.used i }
 {
-    if i < n {
-        return Seen::One(i, rows::load(t, i));
+    if i < t.used {
+        let version = rows::load(t.bytes, i);
+        return Some(Placed { at: i, version });
     }
-    Seen::Nobody
+    None
 }
 
 // The facts of the versions seen so far, each version by its place; n where there is none.
@@ -93,61 +81,43 @@ fn none(n: usize) -> Pass
 }
 
 // The versions from `from` up to, not including, `to`, before those of p: of each what the sums ask.
-fn over(t: &[u8], n: usize, number: u16, from: usize, to: usize, p: Pass) -> Pass
-    requires sound_table { SoundTable t.now n }
-    requires from_le_to { (from ≤ to) × (to ≤ n) }
-    ensures { Adds (decode t.now) n number (slice from to (decode t.now)) p result }
+fn over(t: &Table, number: u16, from: usize, to: usize, p: Pass) -> Pass
+    requires from_le_to { (from ≤ to) × (to ≤ t.now.used) }
+    ensures { Adds (decode t.now.bytes.now) t.now.used number (slice from to (decode t.now.bytes.now)) p result }
 {
-    let mut newest = p.newest;
-    let mut stamp = p.stamp;
-    let mut sends = p.sends;
-    let mut blocked = p.blocked;
-    let mut former = p.former;
-    let mut live = p.live;
-    let mut worked = p.worked;
-    let mut asked = p.asked;
-    let mut i = to;
-    while from < i {
-        i -= 1;
-        let v = rows::load(t, i);
+    let mut sum = p;
+    for i in (from..to).rev() {
+        let v = rows::load(t.bytes, i);
         let own = v.id.number == number;
         let other = !own;
-        newest = larger16(v.id.number, newest);
-        stamp = larger32(v.stamp, stamp);
-        sends = (v.status == status::SENDING) | sends;
-        blocked = (other & (v.status == status::SENDING)) | blocked;
-        former = first(other & v.live, i, former);
-        live = first(v.live, i, live);
-        worked = first(join::is_worked(v.status), i, worked);
-        asked = first(own, i, asked);
+        let sending = v.status == status::SENDING;
+        sum = Pass {
+            newest: v.id.number.max(sum.newest),
+            stamp: v.stamp.max(sum.stamp),
+            sends: sending | sum.sends,
+            blocked: (other & sending) | sum.blocked,
+            former: first(other & v.live, i, sum.former),
+            live: first(v.live, i, sum.live),
+            worked: first(join::is_worked(v.status), i, sum.worked),
+            asked: first(own, i, sum.asked),
+        };
     }
-    Pass {
-        newest,
-        stamp,
-        sends,
-        blocked,
-        former,
-        live,
-        worked,
-        asked,
-    }
+    sum
 }
 
 // The versions of one TN, before those of p.
-fn under(t: &[u8], n: usize, tn: Tn, number: u16, p: Pass) -> Pass
-    requires sound_table { SoundTable t.now n }
+fn under(t: &Table, tn: Tn, number: u16, p: Pass) -> Pass
     requires tn_bound { tn.0 < 17179869184 }
-    ensures { Adds (decode t.now) n number (rows_of itself tn.0 (decode t.now)) p result }
+    ensures { Adds (decode t.now.bytes.now) t.now.used number (rows_of itself tn.0 (decode t.now.bytes.now)) p result }
 {
-    let at = find::versions(t, n, tn);
-    over(t, n, number, at.from, at.to, p)
+    let at = find::versions(t.bytes, t.used, tn);
+    over(t, number, at.from, at.to, p)
 }
 
 // Whole those versions that the kind asks for.
-fn whole(t: &[u8], n: usize, create: bool, p: Pass) -> Facts
-    requires { SoundTable t.now n }
-    ensures { (rs : List Version) (k : ℕ) → Summed (decode t.now) rs k (facts_at (decode t.now) n p)
-        → Surveyed (decode t.now) rs k create result }
+fn whole(t: &Table, create: bool, p: Pass) -> Facts
+    ensures { (rs : List Version) (k : ℕ) → Summed (decode t.now.bytes.now) rs k (facts_at (decode t.now.bytes.now) t.now.used p)
+        → Surveyed (decode t.now.bytes.now) rs k create result }
 {
     if create {
         return Facts {
@@ -155,10 +125,10 @@ fn whole(t: &[u8], n: usize, create: bool, p: Pass) -> Facts
             stamp: p.stamp,
             sends: p.sends,
             blocked: p.blocked,
-            former: Seen::Nobody,
-            live: look(t, n, p.live),
-            worked: look(t, n, p.worked),
-            asked: Seen::Nobody,
+            former: None,
+            live: look(t, p.live),
+            worked: look(t, p.worked),
+            asked: None,
         };
     }
     Facts {
@@ -166,23 +136,22 @@ fn whole(t: &[u8], n: usize, create: bool, p: Pass) -> Facts
         stamp: p.stamp,
         sends: p.sends,
         blocked: p.blocked,
-        former: look(t, n, p.former),
-        live: Seen::Nobody,
-        worked: Seen::Nobody,
-        asked: look(t, n, p.asked),
+        former: look(t, p.former),
+        live: None,
+        worked: None,
+        asked: look(t, p.asked),
     }
 }
 
 // The versions of the larger TN of a line that has two names; of a line of one name none.
-fn beyond(t: &[u8], n: usize, low: Tn, high: Tn, number: u16) -> Pass
-    requires sound_table { SoundTable t.now n }
+fn beyond(t: &Table, low: Tn, high: Tn, number: u16) -> Pass
     requires high_bound { high.0 < 17179869184 }
-    ensures { Summed (decode t.now) (rows_beyond low.0 high.0 (decode t.now)) number
-        (facts_at (decode t.now) n result) }
+    ensures { Summed (decode t.now.bytes.now) (rows_beyond low.0 high.0 (decode t.now.bytes.now)) number
+        (facts_at (decode t.now.bytes.now) t.now.used result) }
 {
-    let p = none(n);
+    let p = none(t.used);
     if low.0 < high.0 {
-        return under(t, n, high, number, p);
+        return under(t, high, number, p);
     }
     p
 }
@@ -194,7 +163,8 @@ pub fn line(t: &[u8], n: usize, low: Tn, high: Tn, number: u16, create: bool) ->
     requires low_le_high { (low.0 ≤ high.0) × (high.0 < 17179869184) }
     ensures { Surveyed (decode t.now) (rows_under low.0 high.0 (decode t.now)) number create result }
 {
-    let p = beyond(t, n, low, high, number);
-    let p = under(t, n, low, number, p);
-    whole(t, n, create, p)
+    let t = Table { bytes: t, used: n };
+    let p = beyond(&t, low, high, number);
+    let p = under(&t, low, number, p);
+    whole(&t, create, p)
 }

@@ -1,2 +1,1 @@
-pub mod Sharers
 pub mod Verdict

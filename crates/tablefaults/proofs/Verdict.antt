@@ -8,8 +8,11 @@ use native.Mathlib.Omega.{arith}
 use borrow.Author.Tests.{eq-eqb, ne_eqb, eqb-true, eqb-false, lt-ltb, ltb-true}
 use lib.Dec.{eqb, ltb, leb}
 use lib.ListN.{length, drop}
-use Rattle.faults.specs.Faults.{before, nearest, broken, first_fault, is_faultless}
+use Rattle.std.specs.Prelude.{Some, None}
+use Rattle.std.specs.Option.{is_none}
+use Rattle.faults.specs.Faults.{before, nearest, broken, first_fault}
 use Rattle.faults.proofs.Laws.{not_leb, nearest-same, nearest_none, all_hold, none_broken, faultless-next, faulty_here}
+use Rattle.faults.proofs.Laws.{numbered_found, numbered_fault, broken_numbered, first_numbered, free_numbered, whole_numbered}
 use Rattle.model.proofs.Lists.{and_l}
 use Rattle.model.specs.declared.Broadcast.{Broadcast}
 use Rattle.model.specs.declared.Version.{Version}
@@ -21,13 +24,9 @@ use Rattle.row.specs.Layout.{key_of, spareless}
 use Rattle.row.proofs.Rooms.{sound_tn}
 use Rattle.rows.specs.Table.{pieces_of}
 use Rattle.rows.proofs.Sounds.{number_lt}
-use Rattle.scan.specs.declared.join.Group.{Group}
-use Rattle.scan.specs.declared.Scan.{Scan}
-use Rattle.scan.specs.declared.Scan.TheVariants.{Bad, Open, Ended}
-use Rattle.scan.specs.Join.{start, second, either, follows, next, join_of}
-use Rattle.scan.specs.declared.Soundness.{Soundness}
-use Rattle.scan.specs.declared.Soundness.TheVariants.{Unsound, Sound}
-use Rattle.scan.specs.Sound.{pick, admit_of, scan_row, scan_rows, scan_of, said_by, soundness_of}
+use Rattle.scan.specs.Join.{Group, start, second, either, follows, next, join_of}
+use Rattle.std.specs.Prelude.{Option, is_some}
+use Rattle.scan.specs.Sound.{Scan, Bad, Open, Ended, pick, admit_of, scan_row, scan_rows, scan_of, said_by, soundness_of}
 use Rattle.scan.proofs.Scans.{scan_step, scan_done, bad_stays}
 use Rattle.tablefaults.specs.Clauses.{type_clauses, sets_in_range, rest_in_range, range_clauses, side_clauses, cast_clauses, words_at}
 use Rattle.tablefaults.specs.Clauses.{version_at, key_at, free_at, form_clauses, sinks, sharer, beside_clauses, row_found, table_fault}
@@ -149,11 +148,12 @@ module _ (t : List ℕ) where
     -- the clauses with others are what the scan asks of the next row
     pub beside-follows : all_hold (beside_clauses t i v) ≡ follows g v
     unfolding follows
-    beside-follows = ap (λ (b : Bool). b && (eqb (sharer 29 t i v) 0 && (eqb (sharer 30 t i v) 0 && (eqb (sharer 31 t i v) 0 && true))))
+    beside-follows = ap (λ (b : Bool). b && (eqb (sharer live t i v) 0 && (eqb (sharer sends t i v) 0
+        && (eqb (sharer worked t i v) 0 && true))))
         (c.rises v (omega (arith, sound_tn v s))) ∙ go (ltb g.last (key_of v.id)) refl
       where
         go : (b : Bool) → ltb g.last (key_of v.id) ≡ b
-            → (b && (eqb (sharer 29 t i v) 0 && (eqb (sharer 30 t i v) 0 && (eqb (sharer 31 t i v) 0 && true))))
+            → (b && (eqb (sharer live t i v) 0 && (eqb (sharer sends t i v) 0 && (eqb (sharer worked t i v) 0 && true))))
             ≡ (b && not (second (eqb v.id.tn.0 (g.last / 65536)) g.live (live v))
             && not (second (eqb v.id.tn.0 (g.last / 65536)) g.sends (sends v))
             && not (second (eqb v.id.tn.0 (g.last / 65536)) g.worked (worked v)))
@@ -190,31 +190,31 @@ module _ (t : List ℕ) where
   -- ---- one row
 
   -- behind a free row a used one is at fault
-  behind_free : (i : ℕ) → before (free_at t) i ≡ true → free_at t i ≡ false → eqb (row_found t i).clause 0 ≡ false
+  behind_free : (i : ℕ) → before (free_at t) i ≡ true → free_at t i ≡ false → is_none (row_found t i) ≡ false
   unfolding row_found
   behind_free i b f = rw (f, b)
 
-  free_fine : (i : ℕ) → free_at t i ≡ true → eqb (row_found t i).clause 0 ≡ true
+  free_fine : (i : ℕ) → free_at t i ≡ true → is_none (row_found t i) ≡ true
   unfolding row_found
   free_fine i f = rw f
 
   -- any other used row is at fault exactly where the scan stops
   used-fine : (i : ℕ) (g : Group) → Carried i g → free_at t i ≡ false
-      → eqb (row_found t i).clause 0 ≡ (spareless (words_at t i) && (sound_version (version_at t i) && follows g (version_at t i)))
+      → is_none (row_found t i) ≡ (spareless (words_at t i) && (sound_version (version_at t i) && follows g (version_at t i)))
   unfolding row_found
   used-fine i g c f =
       rw f
-      (none_broken (form_clauses t i (words_at t i)) _ refl
+      (none_broken (form_clauses t i (words_at t i)) _
       ∙ ap₂ (λ (x y : Bool). x && y) form
-      (none_broken (range_clauses v) _ refl
+      (none_broken (range_clauses v) _
       ∙ ap (λ (x : Bool). all_hold (range_clauses v) && x)
-      (none_broken (side_clauses v) _ refl
+      (none_broken (side_clauses v) _
       ∙ ap (λ (x : Bool). all_hold (side_clauses v) && x)
-      (none_broken (cast_clauses v) _ refl
+      (none_broken (cast_clauses v) _
       ∙ ap (λ (x : Bool). all_hold (cast_clauses v) && x)
-      (none_broken (beside_clauses t i v) _ refl
+      (none_broken (beside_clauses t i v) _
       ∙ ap (λ (x : Bool). all_hold (beside_clauses t i v) && x)
-      (none_broken (type_clauses v) _ refl ∙ and-true (all_hold (type_clauses v))))))
+      (none_broken (type_clauses v) _ ∙ and-true (all_hold (type_clauses v))))))
       ∙ group (all_hold (range_clauses v)) (all_hold (side_clauses v)) (all_hold (cast_clauses v)) (all_hold (beside_clauses t i v))
       (all_hold (type_clauses v))
       ∙ ap (λ (x : Bool). x && all_hold (beside_clauses t i v)) (alone_sound v)
@@ -256,21 +256,21 @@ module _ (t : List ℕ) where
 
   -- behind a free row
   ended_agrees : (m i n : ℕ) → i + m ≡ length t / ROW → before (free_at t) i ≡ true
-      → accepted (scanned (Ended n) i) ≡ is_faultless (first_fault (row_found t) m i)
+      → accepted (scanned (Ended n) i) ≡ is_none (first_fault (row_found t) m i)
   unfolding first_fault scan_row
   ended_agrees zero i n h b = ap accepted (scan_done t i (Ended n) (omega arith))
   ended_agrees (suc m) i n h b = go (free_at t i) refl (ended_agrees m (suc i) n (omega arith))
     where
       go : (f : Bool) → free_at t i ≡ f
-          → (free_at t i ≡ true → accepted (scanned (Ended n) (suc i)) ≡ is_faultless (first_fault (row_found t) m (suc i)))
-          → accepted (scanned (Ended n) i) ≡ is_faultless (first_fault (row_found t) (suc m) i)
+          → (free_at t i ≡ true → accepted (scanned (Ended n) (suc i)) ≡ is_none (first_fault (row_found t) m (suc i)))
+          → accepted (scanned (Ended n) i) ≡ is_none (first_fault (row_found t) (suc m) i)
       go true f ih = ap accepted (step i (Ended n) (Ended n) (omega arith) (rw f)) ∙ ih f
           ∙ sym (faultless-next (row_found t) m i (free_fine i f))
       go false f ih = stops i (Ended n) (omega arith) (rw f) ∙ sym (faulty_here (row_found t) m i (behind_free i b f))
 
   -- among the used rows
   open_agrees : (m i n : ℕ) (g : Group) → i + m ≡ length t / ROW → Carried i g
-      → accepted (scanned (Open n g) i) ≡ is_faultless (first_fault (row_found t) m i)
+      → accepted (scanned (Open n g) i) ≡ is_none (first_fault (row_found t) m i)
   unfolding first_fault scan_row admit_of join_of follows
   open_agrees zero i n g h c = ap accepted (scan_done t i (Open n g) (omega arith))
   open_agrees (suc m) i n g h c =
@@ -282,10 +282,10 @@ module _ (t : List ℕ) where
 
       go : (f a s w : Bool) → free_at t i ≡ f → spareless (words_at t i) ≡ a → sound_version (version_at t i) ≡ s
           → follows g (version_at t i) ≡ w
-          → (free_at t i ≡ true → accepted (scanned (Ended n) (suc i)) ≡ is_faultless (first_fault (row_found t) m (suc i)))
+          → (free_at t i ≡ true → accepted (scanned (Ended n) (suc i)) ≡ is_none (first_fault (row_found t) m (suc i)))
           → (Carried (suc i) (next g (version_at t i)) → accepted (scanned (Open (n + 1) (next g (version_at t i))) (suc i))
-          ≡ is_faultless (first_fault (row_found t) m (suc i)))
-          → accepted (scanned (Open n g) i) ≡ is_faultless (first_fault (row_found t) (suc m) i)
+          ≡ is_none (first_fault (row_found t) m (suc i)))
+          → accepted (scanned (Open n g) i) ≡ is_none (first_fault (row_found t) (suc m) i)
       go true a s w f ea es ew ie io = ap accepted (step i (Open n g) (Ended n) (omega arith) (rw f)) ∙ ie f
           ∙ sym (faultless-next (row_found t) m i (free_fine i f))
       go false true true true f ea es ew ie io =
@@ -301,12 +301,11 @@ module _ (t : List ℕ) where
 
 -- ---- the whole answer
 
-abbrev pub is_sound : Soundness → Bool
-is_sound Unsound = false
-is_sound (Sound n) = true
+abbrev pub is_sound : Option ℕ → Bool
+is_sound s = is_some s
 
 -- NOTHING IS AT FAULT exactly where the engine's own check says sound
-pub table_verdict : (t : List ℕ) → is_faultless (table_fault t) ≡ is_sound (soundness_of t)
+pub table_verdict : (t : List ℕ) → is_none (table_fault t) ≡ is_sound (soundness_of t)
 unfolding table_fault soundness_of scan_of
 table_verdict t = go (eqb (length t % ROW) 0) (leb (length t) (most_rows * ROW))
   where
@@ -315,9 +314,27 @@ table_verdict t = go (eqb (length t % ROW) 0) (leb (length t) (most_rows * ROW))
     said (Open n g) = refl
     said (Ended n) = refl
 
-    go : (a b : Bool) → is_faultless (cond a (cond b (first_fault (row_found t) (length t / ROW) 0) (broken 2)) (broken 1))
+    go : (a b : Bool) → is_none (cond a (cond b (first_fault (row_found t) (length t / ROW) 0) (Some (broken 2))) (Some (broken 1)))
         ≡ is_sound (said_by (pick a (pick b (scan_rows (Open 0 start) (pieces_of t)) Bad) Bad))
     go true true = sym (open_agrees t (length t / ROW) 0 0 start (omega arith) (carried_start t))
         ∙ said (scan_rows (Open 0 start) (pieces_of t))
     go true false = refl
     go false b = refl
+
+-- what is at fault has a clause's number
+row_numbered : (t : List ℕ) (i : ℕ) → numbered_found (row_found t i) ≡ true
+unfolding row_found
+row_numbered t i =
+    let v = version_at t i in
+    free_numbered (free_at t i) _
+    (broken_numbered (form_clauses t i (words_at t i)) _ refl
+    (broken_numbered (range_clauses v) _ refl
+    (broken_numbered (side_clauses v) _ refl
+    (broken_numbered (cast_clauses v) _ refl
+    (broken_numbered (beside_clauses t i v) _ refl (broken_numbered (type_clauses v) None refl refl))))))
+
+pub table_numbered : (t : List ℕ) → numbered_fault (table_fault t) ≡ true
+unfolding table_fault
+table_numbered t =
+    whole_numbered (eqb (length t % ROW) 0) _ _
+    (whole_numbered (leb (length t) (most_rows * ROW)) _ _ (first_numbered (row_found t) (row_numbered t) (length t / ROW) 0) refl) refl

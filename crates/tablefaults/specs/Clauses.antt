@@ -1,9 +1,10 @@
 -- Where a table is unsound: document 01's clauses under the numbers of docs/FAULTS.md, asked of one row after the other.
 -- Assumes nothing.
-use Rattle.std.specs.Prelude.{ℕ, ◌*◌, ◌/◌, ◌%◌, ◌^◌, Bool, cond, not, ◌&&◌, List, [], ◌∷◌, eqb, ltb, leb, length}
+use Rattle.std.specs.Prelude.{ℕ, ◌*◌, ◌/◌, ◌%◌, ◌^◌, ◌≡◌, Bool, cond, not, ◌&&◌, List, [], ◌∷◌, eqb, ltb, leb, length}
+use Rattle.std.specs.Prelude.{Option, Some, None}
 use Rattle.faults.specs.declared.Found.{Found}
 use Rattle.faults.specs.declared.Fault.{Fault}
-use Rattle.faults.specs.Faults.{Clause, alone, beside, found_at, first_broken, before, nearest, broken, first_fault}
+use Rattle.faults.specs.Faults.{Clause, alone, beside, once, first_broken, before, nearest, broken, first_fault}
 use Rattle.model.specs.declared.Broadcast.{Broadcast}
 use Rattle.model.specs.declared.Version.{Version}
 use Rattle.model.specs.Numbers.{ten_digits, is_provider, is_set, is_time, is_number}
@@ -93,40 +94,43 @@ form_clauses t i w = beside 3 (not (before (free_at t) i)) i ∷ alone 4 (sparel
 abbrev pub sinks : List ℕ → Version → ℕ → Bool
 sinks t v j = leb (key_of v.id) (key_at t j)
 
--- what a TN has at most once, by the number of the clause
-abbrev pub mark : ℕ → Version → Bool
-mark n v = cond (eqb n 29) (live v) (cond (eqb n 30) (sends v) (worked v))
+-- what is answered of a version is what p says
+abbrev pub Tests : (Version → Bool → Type 0) → (Version → Bool) → Type 0
+Tests post p = (v : Version) (b : Bool) → post v b → b ≡ p v
 
--- two versions of one TN that both have it
-abbrev pub share : ℕ → Version → Version → Bool
-share n u v = eqb u.id.tn.0 v.id.tn.0 && mark n u && mark n v
+-- two versions of one TN that both have what it has at most once
+abbrev pub share : (Version → Bool) → Version → Version → Bool
+share p u v = eqb u.id.tn.0 v.id.tn.0 && p u && p v
 
 -- the nearest row before row i that shares it with v, told from 1
-abbrev pub sharer : ℕ → List ℕ → ℕ → Version → ℕ
-sharer n t i v = nearest (λ (j : ℕ). share n (version_at t j) v) i
-
-abbrev pub once : ℕ → List ℕ → ℕ → Version → Clause
-once n t i v = beside n (eqb (sharer n t i v) 0) (sharer n t i v)
+abbrev pub sharer : (Version → Bool) → List ℕ → ℕ → Version → ℕ
+sharer p t i v = nearest (λ (j : ℕ). share p (version_at t j) v) i
 
 -- strictly rising; per TN at most one live, one sending, one worked version [T2, V11]
 abbrev pub beside_clauses : List ℕ → ℕ → Version → List Clause
-beside_clauses t i v = beside 28 (not (before (sinks t v) i)) i ∷ once 29 t i v ∷ once 30 t i v ∷ once 31 t i v ∷ []
+beside_clauses t i v =
+    beside 28 (not (before (sinks t v) i)) i
+    ∷ once 29 (sharer live t i v)
+    ∷ once 30 (sharer sends t i v)
+    ∷ once 31 (sharer worked t i v)
+    ∷ []
 
 -- ---- a table
 
 -- what row i breaks: a free row nothing
-unfoldable pub row_found : List ℕ → ℕ → Found
+unfoldable pub row_found : List ℕ → ℕ → Option Found
 row_found t i =
-    cond (free_at t i) (found_at 0 0)
+    cond (free_at t i) None
     (first_broken (form_clauses t i (words_at t i))
     (first_broken (range_clauses (version_at t i))
     (first_broken (side_clauses (version_at t i))
     (first_broken (cast_clauses (version_at t i))
     (first_broken (beside_clauses t i (version_at t i))
-    (first_broken (type_clauses (version_at t i)) (found_at 0 0)))))))
+    (first_broken (type_clauses (version_at t i)) None))))))
 
 -- at most 4,096 whole rows [T1], and then row after row
-unfoldable pub table_fault : List ℕ → Fault
+unfoldable pub table_fault : List ℕ → Option Fault
 table_fault t =
-    cond (eqb (length t % ROW) 0) (cond (leb (length t) (most_rows * ROW)) (first_fault (row_found t) (length t / ROW) 0) (broken 2))
-    (broken 1)
+    cond (eqb (length t % ROW) 0)
+    (cond (leb (length t) (most_rows * ROW)) (first_fault (row_found t) (length t / ROW) 0) (Some (broken 2)))
+    (Some (broken 1))

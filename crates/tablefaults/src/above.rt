@@ -1,9 +1,10 @@
 // The clauses that tie a row to those before it.
-ghost use Rattle.std.specs.Prelude.{◌≡◌, [], ◌∷◌, eqb, ℕ, ◌+◌, ◌*◌, ◌≤◌, ◌<◌, length};
-ghost use Rattle.faults.specs.Faults.{first_broken, before, beside};
+ghost use Rattle.std.specs.Prelude.{◌≡◌, ◌+◌, ◌*◌, ◌≤◌, ◌<◌, length, Bool, eqb, ◌&&◌};
+ghost use Rattle.faults.specs.Faults.{first_broken, before};
+ghost use Rattle.model.specs.declared.Version.{Version};
 ghost use Rattle.words.specs.Size.{ROW};
 ghost use Rattle.row.specs.Layout.{key_of};
-ghost use Rattle.tablefaults.specs.Clauses.{free_at, form_clauses, beside_clauses, sinks, mark, sharer};
+ghost use Rattle.tablefaults.specs.Clauses.{free_at, form_clauses, beside_clauses, sinks, sharer, Tests, version_at};
 
 use faults::Found;
 use model::{Version, status};
@@ -22,7 +23,7 @@ fn behind_free(t: &[u8], i: usize) -> bool
 }
 
 // Clauses 3 and 4, of row i, whose words are w.
-pub fn form(t: &[u8], i: usize, w: Words, rest: Found) -> Found
+pub fn form(t: &[u8], i: usize, w: Words, rest: Option<Found>) -> Option<Found>
     requires { i * ROW ≤ length t.now }
     ensures { result ≡ first_broken (form_clauses t.now i w) rest }
 {
@@ -50,52 +51,38 @@ fn sinks(t: &[u8], i: usize, v: Version) -> bool
     key(v) <= key(u)
 }
 
-// What clause n says that a TN has at most once: live, sending, worked.
-fn has(n: u64, v: Version) -> bool
-    ensures { result ≡ mark n v }
+// The nearest row before row i of v's TN that has what v has, from 1; 0 where v has it not, or none does.
+fn sharer<P: Fn(Version) -> bool>(t: &[u8], i: usize, v: Version, has: P) -> u64
+    requires { (i * ROW ≤ length t.now) × P.IsAlwaysCallable has }
+    ensures { (p : Version → Bool) → Tests (P.post has) p → result ≡ sharer p t.now i v }
 {
-    if n == 29 {
-        return v.live;
-    }
-    if n == 30 {
-        return v.status == status::SENDING;
-    }
-    scan::join::is_worked(v.status)
-}
-
-// The nearest row before row i that shares with v what clause n says, from 1; 0 where none does.
-fn sharer(n: u64, t: &[u8], i: usize, v: Version) -> u64
-    requires { i * ROW ≤ length t.now }
-    ensures { result ≡ sharer n t.now i v }
-{
-    if !has(n, v) {
+    if !has(v) {
         return 0;
     }
-    let mut j = i;
-    while 0 < j {
-        let u = rows::load(t, j - 1);
-        if (u.id.tn.0 == v.id.tn.0) & has(n, u) {
-            return j as u64;
-        }
-        j -= 1;
-    }
-    0
-}
-
-// A clause that a version breaks with the row `other`, 0 for none.
-fn once(n: u64, other: u64, rest: Found) -> Found
-    ensures { result ≡ first_broken (beside n (eqb other 0) other ∷ []) rest }
-{
-    faults::unless(other == 0, n, other, rest)
+    faults::nearest(
+        i,
+        |j|
+            requires { (j * ROW + ROW ≤ length t.now) × P.IsAlwaysCallable has }
+            ensures { (b : Bool) × P.post has (version_at t.entry.now j) b
+                × (result ≡ (eqb (version_at t.entry.now j).id.tn.0 v.id.tn.0 && b)) }
+        {
+            let u = rows::load(t, j);
+            (u.id.tn.0 == v.id.tn.0) & has(u)
+        },
+    )
 }
 
 // Clauses 28 to 31, of v in row i.
-pub fn shared(t: &[u8], i: usize, v: Version, rest: Found) -> Found
+pub fn shared(t: &[u8], i: usize, v: Version, rest: Option<Found>) -> Option<Found>
     requires { (i * ROW ≤ length t.now) × (v.id.tn.0 < 17179869184) }
     ensures { result ≡ first_broken (beside_clauses t.now i v) rest }
 {
-    let f = once(31, sharer(31, t, i, v), rest);
-    let f = once(30, sharer(30, t, i, v), f);
-    let f = once(29, sharer(29, t, i, v), f);
+    let f = faults::once(
+        31,
+        sharer(t, i, v, |u| scan::join::is_worked(u.status)),
+        rest,
+    );
+    let f = faults::once(30, sharer(t, i, v, |u| u.status == status::SENDING), f);
+    let f = faults::once(29, sharer(t, i, v, |u| u.live), f);
     faults::unless(!sinks(t, i, v), 28, i as u64, f)
 }

@@ -23,7 +23,7 @@ fn rest_in_range(c: Broadcast) -> bool
 }
 
 // Clauses 5 to 13.
-pub fn ranges(v: Version, rest: Found) -> Found
+pub fn ranges(v: Version, rest: Option<Found>) -> Option<Found>
     ensures { result ≡ first_broken (range_clauses v) rest }
 {
     let cast = v.cast;
@@ -59,7 +59,7 @@ fn sides_needed(v: Version) -> bool
 }
 
 // Clauses 14 to 20.
-pub fn sides(v: Version, rest: Found) -> Found
+pub fn sides(v: Version, rest: Option<Found>) -> Option<Found>
     ensures { result ≡ first_broken (side_clauses v) rest }
 {
     let new = v.new;
@@ -98,7 +98,7 @@ fn live_fits(v: Version) -> bool
 }
 
 // Clauses 21 to 27.
-pub fn cast(v: Version, rest: Found) -> Found
+pub fn cast(v: Version, rest: Option<Found>) -> Option<Found>
     ensures { result ≡ first_broken (cast_clauses v) rest }
 {
     let cast = v.cast;
@@ -112,7 +112,7 @@ pub fn cast(v: Version, rest: Found) -> Found
 }
 
 // Clause 37.
-pub fn typed(v: Version, rest: Found) -> Found
+pub fn typed(v: Version, rest: Option<Found>) -> Option<Found>
     ensures { result ≡ first_broken (type_clauses v) rest }
 {
     faults::unless(sound::sides::within_fits(v), 37, 0, rest)

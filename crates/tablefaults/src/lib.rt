@@ -3,7 +3,8 @@
 #![tactic(auto)]
 
 ghost use Rattle.std.specs.Prelude.{◌≡◌, ◌+◌, ◌*◌, ◌/◌, ◌≤◌, length};
-ghost use Rattle.faults.specs.Faults.{found_at, first_broken, first_fault};
+ghost use Rattle.std.specs.Prelude.{Option, Some, None};
+ghost use Rattle.faults.specs.Faults.{first_broken, first_fault};
 ghost use Rattle.words.specs.Size.{ROW};
 ghost use Rattle.tablefaults.specs.Clauses.{range_clauses, side_clauses, cast_clauses, form_clauses, beside_clauses, words_at, version_at};
 ghost use Rattle.tablefaults.specs.Clauses.{row_found, table_fault};
@@ -16,16 +17,16 @@ pub mod above;
 pub mod alone;
 
 // What row i breaks; a free row nothing.
-fn found(t: &[u8], i: usize) -> Found
+fn found(t: &[u8], i: usize) -> Option<Found>
     requires { i * ROW + ROW ≤ length t.now }
     ensures { result ≡ row_found t.now i }
 {
     let w = rows::words(t, i);
     if words::blank(w) {
-        return faults::fine();
+        return None;
     }
     let v = row::version_of(w);
-    let typed = alone::typed(v, faults::fine());
+    let typed = alone::typed(v, None);
     let shared = above::shared(t, i, v, typed);
     let cast = alone::cast(v, shared);
     let sides = alone::sides(v, cast);
@@ -33,35 +34,15 @@ fn found(t: &[u8], i: usize) -> Found
     above::form(t, i, w, ranges)
 }
 
-// The first row that breaks a clause.
-fn over(t: &[u8]) -> Fault
-    ensures { result ≡ first_fault (row_found t.now) (length t.now / ROW) 0 }
-{
-    let n = t.len() / ROW;
-    let mut i: usize = 0;
-    while i < n {
-        let f = found(t, i);
-        if f.clause != 0 {
-            return Fault {
-                clause: f.clause,
-                place: i as u64 + 1,
-                second: f.second,
-            };
-        }
-        i += 1;
-    }
-    faults::whole(0)
-}
-
 // Where any bytes are no sound table.
-pub fn fault(t: &[u8]) -> Fault
+pub fn fault(t: &[u8]) -> Option<Fault>
     ensures { result ≡ table_fault t.now }
 {
     if t.len() % ROW != 0 {
-        return faults::whole(1);
+        return Some(faults::whole(1));
     }
     if t.len() > limit::ROWS * ROW {
-        return faults::whole(2);
+        return Some(faults::whole(2));
     }
-    over(t)
+    faults::first(t.len() / ROW, |i| found(t, i))
 }

@@ -1,7 +1,7 @@
 // The tray: messages as bytes, place after place. [Y1, Y8]
 #![tactic(auto)]
 
-ghost use Rattle.std.specs.Prelude.{◌≡◌, cond, ◌+◌, ◌*◌, ◌<◌, ◌≤◌, length};
+ghost use Rattle.std.specs.Prelude.{◌≡◌, ◌+◌, ◌*◌, ◌<◌, ◌≤◌, length};
 ghost use Rattle.model.specs.Basics.{All};
 ghost use Rattle.model.specs.Tray.{members};
 ghost use Rattle.verdict.specs.Verdict.{to_local, to_locals};
@@ -19,23 +19,12 @@ pub fn places(tray: &[u8]) -> usize
     tray.len() / MESSAGE_SIZE
 }
 
-fn flag(b: bool) -> u64
-    ensures { (result ≡ cond b 1 0) × (result < 2) }
-{
-    if b {
-        return 1;
-    }
-    0
-}
-
 // TN 34 bits, version number 16, status 4, provider 6, sort 4.
 pub fn head_of(m: Message) -> u64
     requires { Small m }
     ensures { result ≡ head_of m }
 {
-    let tn = m.id.tn.0;
-    let number = m.id.number as u64;
-    (tn * 65536 + number) * 16384
+    (m.id.tn.0 * 65536 + m.id.number as u64) * 16384
         + (((m.status as u64) * 64 + m.provider as u64) * 16 + m.sort as u64)
 }
 
@@ -44,27 +33,24 @@ pub fn tail_of(m: Message) -> u64
     requires { Small m }
     ensures { result ≡ tail_of m }
 {
-    let lrn = m.lrn.0;
-    let local = flag(m.local);
-    (lrn * 2 + local) * 536870912
+    (m.lrn.0 * 2 + u64::from(m.local)) * 536870912
 }
 
 // The message that three words are.
 pub fn message_of(head: u64, tail: u64, failed: u64) -> Message
     ensures { result ≡ message_of head tail failed }
 {
-    let tn = Tn((head >> 30) % 17179869184);
-    let number = ((head >> 14) % 65536) as u16;
-    let lrn = Lrn((tail >> 30) % 17179869184);
-    let id = Id { tn, number };
     Message {
         local: (tail >> 29) % 2 == 1,
         provider: ((head >> 4) % 64) as u8,
         sort: ((head >> 0) % 16) as u8,
-        id,
+        id: Id {
+            tn: Tn((head >> 30) % 17179869184),
+            number: ((head >> 14) % 65536) as u16,
+        },
         status: ((head >> 10) % 16) as u8,
         failed,
-        lrn,
+        lrn: Lrn((tail >> 30) % 17179869184),
     }
 }
 
@@ -97,16 +83,10 @@ pub fn put_message(tray: &mut [u8], place: usize, m: Message)
 pub fn to_local(m: Message, provider: u8) -> Message
     ensures { result ≡ to_local m provider }
 {
-    let id = m.id;
-    let lrn = m.lrn;
     Message {
         local: true,
         provider,
-        sort: m.sort,
-        id,
-        status: m.status,
-        failed: m.failed,
-        lrn,
+        ..m
     }
 }
 
@@ -117,14 +97,11 @@ pub fn put_downloads(tray: &mut [u8], from: usize, m: Message, set: u64) -> usiz
     ensures { Told (to_locals m (members set)) from tray.old tray.new result }
 {
     let mut at = from;
-    let mut provider: u8 = 0;
-    'providers: while provider < limit::PROVIDERS {
-        provider += 1;
-        if !systems::has(set, provider) {
-            continue 'providers;
+    for provider in 1..=limit::PROVIDERS {
+        if systems::has(set, provider) {
+            put_message(tray, at, to_local(m, provider));
+            at += 1;
         }
-        put_message(tray, at, to_local(m, provider));
-        at += 1;
     }
     at - from
 }

@@ -9,7 +9,7 @@ ghost use Rattle.words.specs.Codec.{words_in, bytes_of, stored, is_blank, no_wor
 pub const ROW: usize = 80;
 
 // The ten words of a row, every bit kept.
-#[derive(Clone, Copy)]
+#[derive(Clone, Copy, PartialEq, Eq, Default)]
 pub struct Words {
     // TN, number, status, live, new side created, old side created, window run out.
     pub head: u64,
@@ -28,31 +28,22 @@ pub struct Words {
     pub high: u64,
 }
 
+#[tactic(auto, unfolding(crate::specs::Codec::words_in))]
 pub fn get(b: &[u8]) -> Words
     requires { length b.now ≡ ROW }
     ensures { result ≡ words_in b.now }
 {
-    let head = octets::u64_at(b, 0);
-    let terms = octets::u64_at(b, 8);
-    let dues = octets::u64_at(b, 16);
-    let times = octets::u64_at(b, 24);
-    let confirmed = octets::u64_at(b, 32);
-    let waiting = octets::u64_at(b, 40);
-    let failed = octets::u64_at(b, 48);
-    let low = octets::u64_at(b, 56);
-    let mid = octets::u64_at(b, 64);
-    let high = octets::u64_at(b, 72);
     Words {
-        head,
-        terms,
-        dues,
-        times,
-        confirmed,
-        waiting,
-        failed,
-        low,
-        mid,
-        high,
+        head: octets::u64_at(b, 0),
+        terms: octets::u64_at(b, 8),
+        dues: octets::u64_at(b, 16),
+        times: octets::u64_at(b, 24),
+        confirmed: octets::u64_at(b, 32),
+        waiting: octets::u64_at(b, 40),
+        failed: octets::u64_at(b, 48),
+        low: octets::u64_at(b, 56),
+        mid: octets::u64_at(b, 64),
+        high: octets::u64_at(b, 72),
     }
 }
 
@@ -80,34 +71,12 @@ pub fn put(b: &mut [u8], w: Words)
 pub fn blank(w: Words) -> bool
     ensures { result ≡ is_blank w }
 {
-    if w.head != 0 {
-        return false;
-    }
-    (w.terms == 0)
-        & (w.dues == 0)
-        & (w.times == 0)
-        & (w.confirmed == 0)
-        & (w.waiting == 0)
-        & (w.failed == 0)
-        & (w.low == 0)
-        & (w.mid == 0)
-        & (w.high == 0)
+    w == Words::default()
 }
 
 // The words of a free row.
 pub fn none() -> Words
     ensures { result ≡ no_words }
 {
-    Words {
-        head: 0,
-        terms: 0,
-        dues: 0,
-        times: 0,
-        confirmed: 0,
-        waiting: 0,
-        failed: 0,
-        low: 0,
-        mid: 0,
-        high: 0,
-    }
+    Words::default()
 }

@@ -1,14 +1,16 @@
 -- `batch::all` meets its contract. Assumes nothing.
+use Rattle.std.specs.Prelude.{Some}
 use borrow.Author.Rules.{rules}
-use mathlib.Core.Path.{refl}
-use Prim.Native.Nat.{◌-◌}
+use mathlib.Core.Path.{◌≡◌, refl}
+use Prim.Native.Nat.{◌/◌}
+use lib.ListN.{length}
 use native.Mathlib.Omega.{arith}
-use Rattle.batch.proofs.Loops.{fits-behind, outs_room, here_first, went_full, went_all, here-next}
+use Rattle.batch.proofs.Loops.{fits-behind, outs_room, here_first, went_full, went_done, here-next}
 use Rattle.batch.proofs.all.Goals as goal
 
 pub loop-i-init : goal.loop-i-init
 loop-i-init c =
-    here_first c.args.l c.args.books.now c.args.most c.args.events.now c.args.table.now c.args.tray.now
+    here_first (Some c.args.lent.marks) c.args.lent.books.now c.args.lent.most c.args.events.now c.args.table.now c.args.tray.now
     c.args.outs.now c.args.n c.requires.sound_table c.requires.table_value.0
 
 pub overflow_mul-messages : goal.overflow_mul-messages
@@ -30,7 +32,7 @@ shape_of-outs-then-tray-messages-lt-PLACES c = c.loop-i.invariant.outs_same
 
 pub returns-then-tray-messages-lt-PLACES : goal.returns-then-tray-messages-lt-PLACES
 returns-then-tray-messages-lt-PLACES c =
-    went_full c.args.l c.args.books.now c.args.most c.args.events.now c.args.table.now c.args.tray.now
+    went_full (Some c.args.lent.marks) c.args.lent.books.now c.args.lent.most c.args.events.now c.args.table.now c.args.tray.now
     c.args.outs.now _ _ _ _ _ _ c.loop-i.invariant c.loop-i-test.true c.if-tray-messages-lt-PLACES.true
 
 pub overflow_mul-from : goal.overflow_mul-from
@@ -54,7 +56,7 @@ one-t-requires c =
       sound_table = h.sound;
       table_value = (
         h.scanned,
-        fits-behind c.args.most c.args.tray.now c.loop-i.tray
+        fits-behind c.args.lent.most c.args.tray.now c.loop-i.tray
             c.loop-i.messages c.requires.table_value.1
             c.if-tray-messages-lt-PLACES.false,
         outs_room c.loop-i.i _ c.args.outs.now
@@ -64,18 +66,10 @@ one-t-requires c =
       );
     }
 
-pub overflow_add-i : goal.overflow_add-i
-overflow_add-i c =
-    let g = c.loop-i-test.true in
-    search rules
-
-pub loop-i-smaller : goal.loop-i-smaller
-loop-i-smaller c = omega (arith, c.loop-i-test.true)
-
 pub loop-i-preserved : goal.loop-i-preserved
 loop-i-preserved c =
     let k = c.one-t.auto in
-    here-next c.args.l c.args.books.now c.args.most c.args.events.now c.args.table.now c.args.tray.now
+    here-next (Some c.args.lent.marks) c.args.lent.books.now c.args.lent.most c.args.events.now c.args.table.now c.args.tray.now
     c.args.outs.now _ _ _ _ _ _
     c.loop-i.invariant _ _ _ _ _
     c.loop-i-test.true
@@ -93,5 +87,7 @@ shape_of-outs c = c.loop-i.invariant.outs_same
 
 pub returns : goal.returns
 returns c =
-    went_all c.args.l c.args.books.now c.args.most c.args.events.now c.args.table.now c.args.tray.now
-    c.args.outs.now _ _ _ _ _ _ c.loop-i.invariant c.loop-i-test.false
+    let l = c.loop-i in
+    let e : l.i ≡ length c.args.events.now / 24 = omega arith in
+    went_done (Some c.args.lent.marks) c.args.lent.books.now c.args.lent.most c.args.events.now c.args.table.now c.args.tray.now
+    c.args.outs.now _ _ _ _ _ _ l.invariant e

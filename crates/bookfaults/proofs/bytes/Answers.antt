@@ -5,7 +5,6 @@ use borrow.Author.Tests.{eq-eqb, ne_eqb}
 use lib.ListN.{length}
 use Rattle.books.specs.Packed.{book_bytes, head_of}
 use Rattle.bookfaults.specs.Clauses.{bytes_fault}
-use borrow.Author.Rules.{rules}
 use Rattle.bookfaults.proofs.bytes.Goals as goal
 
 pub returns-then-books-ne-BOOK_BYTES : goal.returns-then-books-ne-BOOK_BYTES
@@ -29,8 +28,8 @@ unfolding bytes_fault
 returns c =
     let bs = c.args.books.now in
     rw (
-      c.or_else-2.ensures,
-      c.or_else.ensures,
+      c.or-2.ensures,
+      c.or.ensures,
       c.fault-codes.ensures,
       c.fault-filters.ensures,
       c.fault-pairs.ensures,

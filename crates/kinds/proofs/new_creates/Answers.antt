@@ -2,4 +2,4 @@
 use Rattle.kinds.proofs.new_creates.Goals as goal
 
 pub returns : goal.returns
-returns c = rw (c.sides_named.ensures, c.is_lrn.ensures)
+returns c = rw (c.sides_named.ensures, c.ten_digits.ensures)

@@ -2,4 +2,4 @@
 use Rattle.kinds.proofs.new_modifies.Goals as goal
 
 pub returns : goal.returns
-returns c = rw c.is_lrn.ensures
+returns c = rw c.ten_digits.ensures

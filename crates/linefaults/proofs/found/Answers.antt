@@ -11,7 +11,6 @@ use Rattle.scan.proofs.Admits.{tn_fits}
 use Rattle.table.proofs.Sought.{sound_good, sound_load}
 use Rattle.books.specs.Packed.{splits_of}
 use Rattle.linefaults.proofs.Rivals.{found-under, found-alone}
-use borrow.Author.Rules.{rules}
 use Rattle.linefaults.proofs.found.Goals as goal
 
 pub load-v-requires : goal.load-v-requires
@@ -29,8 +28,7 @@ line_names-names-requires c =
 pub returns-then-tn-names : goal.returns-then-tn-names
 returns-then-tn-names c =
     let a = c.args in
-    c.fine.ensures
-    ∙ found-alone (splits_of a.books.now) (decode a.t.now) a.i c.load-v.result
+    found-alone (splits_of a.books.now) (decode a.t.now) a.i c.load-v.result
     (c.load-v.ensures ∙ sound_load a.t.now a.n c.requires.sound_table a.i (unpack []) c.requires.i_lt_n)
     c.line_names-names.result c.line_names-names.ensures (rows_in a.t.now)
     (sound_good a.t.now a.n c.requires.sound_table) (omega (arith, c.requires.sound_table.count, c.requires.i_lt_n)) c.if-tn-names.true

@@ -8,20 +8,21 @@ use Rattle.lines.proofs.Passes.{listed, absent_at, absent_out}
 use Rattle.lines.proofs.absent.Goals as goal
 
 pub head-requires : goal.head-requires
-head-requires c = omega (arith, c.requires.sound_table.whole, c.requires.sound_table.room, c.if-i-n.true)
+head-requires c = omega (arith, c.args.t.now.sound.whole, c.args.t.now.sound.room, c.if-i-t.true)
 
-pub returns-then-i-n : goal.returns-then-i-n
-returns-then-i-n c =
+pub returns-then-i-t : goal.returns-then-i-t
+returns-then-i-t c =
     let a = c.args in
     let at = c.place_from-i in
     let w = c.head in
-    let h = c.if-i-n.true in
-    let g = tells a.t.now a.n at.result w.result c.requires.sound_table h w.ensures (omega arith) in
-    absent_at a.k (omega arith) (decode a.t.now) at.result at.ensures (listed a.t.now a.n c.requires.sound_table)
-    (omega (arith, c.requires.sound_table.count, h)) (w.result / 16384) g.key
+    let h = c.if-i-t.true in
+    let g = tells a.t.now.bytes.now a.t.now.used at.result w.result c.args.t.now.sound h w.ensures (omega arith) in
+    absent_at a.k (omega arith) (decode a.t.now.bytes.now) at.result at.ensures (listed a.t.now.bytes.now a.t.now.used c.args.t.now.sound)
+    (omega (arith, c.args.t.now.sound.count, h)) (w.result / 16384) g.key
 
 pub returns : goal.returns
 returns c =
     let a = c.args in
     let at = c.place_from-i in
-    sym (absent_out a.k (omega arith) (decode a.t.now) at.result at.ensures (omega (arith, c.requires.sound_table.count, c.if-i-n.false)))
+    sym (absent_out a.k (omega arith) (decode a.t.now.bytes.now) at.result at.ensures
+    (omega (arith, c.args.t.now.sound.count, c.if-i-t.false)))

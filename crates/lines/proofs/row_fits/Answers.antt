@@ -12,16 +12,15 @@ use Rattle.lines.proofs.row_fits.Goals as goal
 
 pub head-w-requires : goal.head-w-requires
 head-w-requires c =
-    omega (arith, c.requires.sound_table.whole, c.requires.sound_table.room, c.requires.c_bound.1)
+    omega (arith, c.args.t.now.sound.whole, c.args.t.now.sound.room, c.requires.c_bound.1)
 
 pub nobody-requires : goal.nobody-requires
 nobody-requires c =
     let a = c.args in
     let w = c.head-w in
-    let vs = decode a.t.now in
-    let g = tells a.t.now a.n a.i w.result c.requires.sound_table c.requires.c_bound.1 w.ensures (omega arith) in
+    let vs = decode a.t.now.bytes.now in
+    let g = tells a.t.now.bytes.now a.t.now.used a.i w.result c.args.t.now.sound c.requires.c_bound.1 w.ensures (omega arith) in
     record {
-      sound_table = c.requires.sound_table;
       at_value = c.requires.at_value
           ∙ ap (λ (y : ℕ). place_in ((a.c * 10000 + y % 10000) * 65536 + 0) vs) (sym g.tn);
     }
@@ -30,8 +29,8 @@ pub returns-then-nobody : goal.returns-then-nobody
 returns-then-nobody c =
     let a = c.args in
     let w = c.head-w in
-    let vs = decode a.t.now in
-    let g = tells a.t.now a.n a.i w.result c.requires.sound_table c.requires.c_bound.1 w.ensures (omega arith) in
+    let vs = decode a.t.now.bytes.now in
+    let g = tells a.t.now.bytes.now a.t.now.used a.i w.result c.args.t.now.sound c.requires.c_bound.1 w.ensures (omega arith) in
     sym (fits-nobody a.c vs (version_at vs a.i) (w.result / 1073741824) (w.result / 16384 % 65536) g.tn g.number
     c.nobody.result c.nobody.ensures c.if-nobody.true)
 
@@ -39,22 +38,21 @@ pub absent-requires : goal.absent-requires
 absent-requires c =
     let a = c.args in
     let w = c.head-w in
-    let vs = decode a.t.now in
-    let g = tells a.t.now a.n a.i w.result c.requires.sound_table c.requires.c_bound.1 w.ensures (omega arith) in
+    let vs = decode a.t.now.bytes.now in
+    let g = tells a.t.now.bytes.now a.t.now.used a.i w.result c.args.t.now.sound c.requires.c_bound.1 w.ensures (omega arith) in
     let at : a.at ≡ place_in ((a.c * 10000 + w.result / 1073741824 % 10000) * 65536 + 0) vs =
     c.requires.at_value ∙ ap (λ (y : ℕ). place_in ((a.c * 10000 + y % 10000) * 65536 + 0) vs) (sym g.tn) in
     let up = place_up vs ((a.c * 10000 + w.result / 1073741824 % 10000) * 65536 + 0)
     ((a.c * 10000 + w.result / 1073741824 % 10000) * 65536 + w.result / 16384 % 65536) (omega arith) in
-    record { sound_table = c.requires.sound_table; tn_bound = (omega (arith, c.requires.c_bound.0), omega (arith, at, up)) }
+    record { tn_bound = (omega (arith, c.requires.c_bound.0), omega (arith, at, up)) }
 
 pub spared-requires : goal.spared-requires
 spared-requires c =
     let a = c.args in
     let w = c.head-w in
-    let vs = decode a.t.now in
-    let g = tells a.t.now a.n a.i w.result c.requires.sound_table c.requires.c_bound.1 w.ensures (omega arith) in
+    let vs = decode a.t.now.bytes.now in
+    let g = tells a.t.now.bytes.now a.t.now.used a.i w.result c.args.t.now.sound c.requires.c_bound.1 w.ensures (omega arith) in
     record {
-      sound_table = c.requires.sound_table;
       at_value = c.requires.at_value
           ∙ ap (λ (y : ℕ). place_in ((a.c * 10000 + y % 10000) * 65536 + 0) vs) (sym g.tn);
     }
@@ -63,8 +61,8 @@ pub returns-then-absent : goal.returns-then-absent
 returns-then-absent c =
     let a = c.args in
     let w = c.head-w in
-    let vs = decode a.t.now in
-    let g = tells a.t.now a.n a.i w.result c.requires.sound_table c.requires.c_bound.1 w.ensures (omega arith) in
+    let vs = decode a.t.now.bytes.now in
+    let g = tells a.t.now.bytes.now a.t.now.used a.i w.result c.args.t.now.sound c.requires.c_bound.1 w.ensures (omega arith) in
     fits_by a.c vs (version_at vs a.i) (w.result / 1073741824) (w.result / 16384 % 65536) g.tn g.number
     c.absent.result c.absent.ensures c.if-absent.true
     c.held_of.result (c.held_of.ensures ∙ g.held) c.spared.result c.spared.ensures
@@ -73,7 +71,7 @@ pub returns : goal.returns
 returns c =
     let a = c.args in
     let w = c.head-w in
-    let vs = decode a.t.now in
-    let g = tells a.t.now a.n a.i w.result c.requires.sound_table c.requires.c_bound.1 w.ensures (omega arith) in
+    let vs = decode a.t.now.bytes.now in
+    let g = tells a.t.now.bytes.now a.t.now.used a.i w.result c.args.t.now.sound c.requires.c_bound.1 w.ensures (omega arith) in
     sym (fits_not a.c vs (version_at vs a.i) (w.result / 1073741824) (w.result / 16384 % 65536) g.tn g.number
     c.absent.result c.absent.ensures c.if-absent.false)

@@ -33,7 +33,6 @@ pair_fits-requires c =
     let w = split_place a.books.now in
     let xs = splits_of a.books.now in
     let vs = decode a.t.now in record {
-      sound_table = c.requires.sound_table;
       c_bound = pair_codes w split_places l.i xs vs l.invariant c.u64_at-w.result c.u64_at-w.ensures
           (omega (arith, c.loop-i-test.true)) c.if-w-eq0.false;
     }

@@ -1,10 +1,10 @@
--- `octets::u32_at` meets its contract: the four bytes are summed, and that is the number that they are.
--- Assumes nothing.
-use native.Mathlib.Omega.{arith}
-use native.Mathlib.Nat.{add-zero}
-use Rattle.octets.specs.Octets.{be}
+-- `octets::u32_at` meets its contract, as `u64_at` does. Assumes nothing.
+use mathlib.Core.Path.{◌∙◌}
+use Rattle.octets.proofs.Chunks.{be_4}
 use Rattle.octets.proofs.u32_at.Goals as goal
 
 pub returns : goal.returns
-unfolding be
-returns c = rw add-zero (omega arith)
+returns c =
+    let a = c.args in
+    c.from.ensures ∙ c.from_be_bytes.ensures
+    ∙ be_4 a.at a.s.now c.unwrap-bytes.result.now c.requires (rw c.unwrap-bytes.ensures at c.first_chunk.ensures.cases)

@@ -1,16 +1,16 @@
 -- `scan::verdict` meets its contract. Assumes nothing.
-use mathlib.Core.Path.{sym, ap, ◌∙◌}
-use Rattle.scan.specs.Sound.{said_by, soundness_of}
+use borrow.Author.Tests.{eq-eqb, ne_eqb, le-leb, lt-leb}
+use Rattle.scan.specs.Sound.{scan_of, soundness_of}
 use Rattle.scan.proofs.verdict.Goals as goal
 
-pub returns-in-Bad : goal.returns-in-Bad
-unfolding soundness_of
-returns-in-Bad c = sym (ap said_by (sym c.whole-s.ensures ∙ c.in-Bad.is))
+pub returns-then-t : goal.returns-then-t
+unfolding scan_of soundness_of
+returns-then-t c = simp (eq-eqb _ _ c.if-t-eq0.true, le-leb _ _ c.if-t.true) c.over.ensures
 
-pub returns-in-Open : goal.returns-in-Open
-unfolding soundness_of
-returns-in-Open c = sym (ap said_by (sym c.whole-s.ensures ∙ c.in-Open.is))
+pub returns-else-t : goal.returns-else-t
+unfolding scan_of soundness_of
+returns-else-t c = simp (eq-eqb _ _ c.if-t-eq0.true, lt-leb _ _ c.if-t.false)
 
-pub returns-in-Ended : goal.returns-in-Ended
-unfolding soundness_of
-returns-in-Ended c = sym (ap said_by (sym c.whole-s.ensures ∙ c.in-Ended.is))
+pub returns-else-t-eq0 : goal.returns-else-t-eq0
+unfolding scan_of soundness_of
+returns-else-t-eq0 c = simp (ne_eqb _ _ c.if-t-eq0.false)

@@ -1,9 +1,13 @@
--- `cast::retries_sound` meets its contract. Assumes nothing.
-use mathlib.Core.Path.{sym}
+-- `sets::retries_sound` meets its contract. Assumes nothing.
+use mathlib.Core.Path.{◌≡◌, sym}
+use borrow.Author.Rules.{rules}
 use Rattle.sets.proofs.Everys.{retries_zero}
 use Rattle.sets.proofs.retries_sound.Goals as goal
 
-pub returns-then-c-eq0-3 : goal.returns-then-c-eq0-3
-returns-then-c-eq0-3 c =
-    sym (retries_zero c.args.c c.if-c-eq0.true
-    c.if-c-eq0-2.true c.if-c-eq0-3.true)
+pub returns-then-eq : goal.returns-then-eq
+returns-then-eq c =
+    let r = c.args.c.retries in
+    let low : r.low ≡ 0 = search (rules, c.if-eq.ensures, c.default.ensures) in
+    let mid : r.mid ≡ 0 = search (rules, c.if-eq.ensures, c.default.ensures) in
+    let high : r.high ≡ 0 = search (rules, c.if-eq.ensures, c.default.ensures) in
+    sym (retries_zero c.args.c low mid high)

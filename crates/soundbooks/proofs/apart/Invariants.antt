@@ -1,6 +1,5 @@
 -- `soundbooks::apart` meets its contract. The loop's invariant: the pairs that are left decide.
 -- Assumes nothing.
-use Prim.Native.Nat.{◌-◌}
 use mathlib.Core.Path.{◌≡◌}
 use Rattle.books.specs.Packed.{split_place, split_places}
 use Rattle.books.specs.Places.{rest_of}
@@ -10,6 +9,3 @@ use Rattle.soundbooks.proofs.apart.Given as goal
 abbrev pub invariant-loop-k : goal.invariant-loop-k
 invariant-loop-k l = apart_from l.one l.other (rest_of (split_place l.books) split_places l.i) ≡ apart_from l.one l.other
     (rest_of (split_place l.books) split_places l.k)
-
-abbrev pub decreases-loop-k : goal.decreases-loop-k
-decreases-loop-k l = split_places - l.k

@@ -1,6 +1,8 @@
 -- `soundbooks::sound` meets its contract: the parts in their order, the first that fails decides.
 -- Assumes nothing.
 use mathlib.Core.Path.{sym, ◌∙◌}
+use mathlib.Core.Bool.{true, false}
+use Rattle.std.proofs.Common.{rules}
 use borrow.Author.Tests.{eq-eqb, ne_eqb}
 use Rattle.soundbooks.proofs.Soundness.{sound_parts}
 use Rattle.soundbooks.proofs.sound.Goals as goal
@@ -42,7 +44,7 @@ returns-then-not-sound_rows c =
       eq-eqb _ _ c.if-books-ne-BOOK_BYTES.false,
       sym c.head_free.ensures ∙ c.if-not-head_free.false,
       sym c.sound.ensures ∙ c.if-not-sound.false,
-      sym c.sound_rows.ensures ∙ c.if-not-sound_rows.true,
+      sym (c.sound_rows.ensures false a.marks (λ l x b e. search rules)) ∙ c.if-not-sound_rows.true,
     ))
 
 pub returns-then-not-sound_rows-2 : goal.returns-then-not-sound_rows-2
@@ -55,8 +57,8 @@ returns-then-not-sound_rows-2 c =
       sym c.head_free.ensures
           ∙ c.if-not-head_free.false,
       sym c.sound.ensures ∙ c.if-not-sound.false,
-      sym c.sound_rows.ensures ∙ c.if-not-sound_rows.false,
-      sym c.sound_rows-2.ensures ∙ c.if-not-sound_rows-2.true,
+      sym (c.sound_rows.ensures false a.marks (λ l x b e. search rules)) ∙ c.if-not-sound_rows.false,
+      sym (c.sound_rows-2.ensures true a.marks (λ l x b e. search rules)) ∙ c.if-not-sound_rows-2.true,
     ))
 
 pub returns : goal.returns
@@ -70,6 +72,6 @@ returns c =
           ∙ c.if-not-head_free.false,
       sym c.sound.ensures
           ∙ c.if-not-sound.false,
-      sym c.sound_rows.ensures ∙ c.if-not-sound_rows.false,
-      sym c.sound_rows-2.ensures ∙ c.if-not-sound_rows-2.false,
+      sym (c.sound_rows.ensures false a.marks (λ l x b e. search rules)) ∙ c.if-not-sound_rows.false,
+      sym (c.sound_rows-2.ensures true a.marks (λ l x b e. search rules)) ∙ c.if-not-sound_rows-2.false,
     ) (sym c.sound_splits.ensures))

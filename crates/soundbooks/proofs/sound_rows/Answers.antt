@@ -10,40 +10,39 @@ use Rattle.soundbooks.specs.Sound.{row_test}
 use Rattle.soundbooks.proofs.sound_rows.Goals as goal
 
 pub loop-i-init : goal.loop-i-init
-loop-i-init c =
+loop-i-init g c =
     let a = c.args in
     let e : a.at ≡ a.at + 4 * 0 = omega arith in
-    (c.u32_at-w.ensures ∙ ap (be 4 a.books.now) e, refl)
+    (c.u32_at-w.ensures ∙ ap (be 4 a.books.now) e, λ f m p. refl)
 
 pub returns-then-w-eq0 : goal.returns-then-w-eq0
-returns-then-w-eq0 c =
+returns-then-w-eq0 g c f m p =
     let l = c.loop-i in
     let a = c.args in
     c.free_rows.ensures ∙ sym
-    (l.invariant.1 ∙ scan_free (row_test a.filters a.marks) (place_of 4 a.at a.books.now) row_places l.i l.last l.w
+    (l.invariant.1 f m p ∙ scan_free (row_test f m) (place_of 4 a.at a.books.now) row_places l.i l.last l.w
     c.loop-i-test.true l.invariant.0 c.if-w-eq0.true)
 
-pub returns-then-not-good_row : goal.returns-then-not-good_row
-returns-then-not-good_row c =
+pub returns-then-not-good : goal.returns-then-not-good
+returns-then-not-good g c f m p =
     let l = c.loop-i in
     let a = c.args in
-    sym (l.invariant.1 ∙ scan_bad (row_test a.filters a.marks) (place_of 4 a.at a.books.now) row_places l.i l.last l.w
-    c.loop-i-test.true l.invariant.0 _ c.if-w-eq0.false c.good_row.ensures
-    (c.if-not-good_row.true))
+    sym (l.invariant.1 f m p ∙ scan_bad (row_test f m) (place_of 4 a.at a.books.now) row_places l.i l.last l.w
+    c.loop-i-test.true l.invariant.0 _ c.if-w-eq0.false (p l.last l.w _ c.good.ensures) c.if-not-good.true)
 
 pub loop-i-preserved : goal.loop-i-preserved
-loop-i-preserved c =
+loop-i-preserved g c =
     let l = c.loop-i in
     let a = c.args in (
       c.u32_at-w-in-loop-i.ensures,
-      l.invariant.1 ∙ scan-next (row_test a.filters a.marks) (place_of 4 a.at a.books.now) row_places l.i
+      λ f m p. l.invariant.1 f m p ∙ scan-next (row_test f m) (place_of 4 a.at a.books.now) row_places l.i
           l.last l.w c.loop-i-test.true l.invariant.0 _ c.if-w-eq0.false
-          c.good_row.ensures (c.if-not-good_row.false),
+          (p l.last l.w _ c.good.ensures) c.if-not-good.false,
     )
 
 pub returns : goal.returns
-returns c =
+returns g c f m p =
     let l = c.loop-i in
     let a = c.args in
-    sym (l.invariant.1 ∙ scan_end (row_test a.filters a.marks) (place_of 4 a.at a.books.now) row_places l.i
+    sym (l.invariant.1 f m p ∙ scan_end (row_test f m) (place_of 4 a.at a.books.now) row_places l.i
     l.last c.loop-i-test.false)

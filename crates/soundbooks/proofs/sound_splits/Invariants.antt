@@ -10,6 +10,3 @@ use Rattle.soundbooks.proofs.sound_splits.Given as goal
 abbrev pub invariant-loop-i : goal.invariant-loop-i
 invariant-loop-i l =
     scan split_test (split_place l.books) split_places 0 0 ≡ scan split_test (split_place l.books) (split_places - l.i) l.i 0
-
-abbrev pub decreases-loop-i : goal.decreases-loop-i
-decreases-loop-i l = split_places - l.i

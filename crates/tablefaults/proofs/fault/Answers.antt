@@ -5,7 +5,8 @@ use borrow.Author.Tests.{eq-eqb, ne_eqb, le-leb, lt-leb}
 use lib.ListN.{length}
 use Rattle.model.specs.Sound.{most_rows}
 use Rattle.words.specs.Size.{ROW}
-use Rattle.tablefaults.specs.Clauses.{table_fault}
+use Rattle.tablefaults.specs.Clauses.{row_found, table_fault}
+use Rattle.std.proofs.Common.{rules}
 use Rattle.tablefaults.proofs.fault.Goals as goal
 
 pub returns-then-t-ne0 : goal.returns-then-t-ne0
@@ -30,7 +31,7 @@ unfolding table_fault
 returns c =
     let t = c.args.t.now in
     rw (
-      c.over.ensures,
+      c.first.ensures (row_found t) (λ i r k e. search rules),
       eq-eqb (length t % ROW) 0 (omega (arith, c.if-t-ne0.false)),
       le-leb (length t) (most_rows * ROW)
           c.if-t.false,

@@ -12,7 +12,7 @@ use Rattle.tablefaults.proofs.found.Goals as goal
 pub returns-then-blank : goal.returns-then-blank
 unfolding row_found
 returns-then-blank c =
-    rw (c.fine.ensures, ap is_blank (sym c.words-w.ensures), sym c.blank.ensures ∙ c.if-blank.true)
+    rw (ap is_blank (sym c.words-w.ensures), sym c.blank.ensures ∙ c.if-blank.true)
 
 pub shared-shared-requires : goal.shared-shared-requires
 shared-shared-requires c =
@@ -32,7 +32,6 @@ returns c =
       c.cast-cast.ensures,
       c.shared-shared.ensures,
       c.typed-typed.ensures,
-      c.fine-2.ensures,
       c.version_of-v.ensures,
       c.words-w.ensures,
     )

@@ -1,6 +1,6 @@
 -- `tray::put_downloads` meets its contract. The loop's invariant: what is left to be put, put from here, gives the whole.
 -- Assumes nothing.
-use Prim.Native.Nat.{◌+◌, ◌-◌, ◌≤◌}
+use Prim.Native.Nat.{◌+◌, ◌-◌}
 use mathlib.Core.Path.{◌≡◌}
 use lib.ListN.{length}
 use Rattle.systems.specs.Set.{count}
@@ -9,9 +9,6 @@ use Rattle.tray.specs.Tray.{put_all}
 use Rattle.tray.proofs.Downloads.{above}
 use Rattle.tray.proofs.put_downloads.Given as goal
 
-abbrev pub invariant-providers : goal.invariant-providers
-invariant-providers l = (l.provider ≤ 63) × (length l.tray ≡ length l.initial.tray) × (l.at ≡ l.from + count l.set l.provider)
-    × (put_all l.tray l.at (to_locals l.m (above l.set l.provider)) ≡ put_all l.initial.tray l.from (to_locals l.m (above l.set 0)))
-
-abbrev pub decreases-providers : goal.decreases-providers
-decreases-providers l = 63 - l.provider
+abbrev pub invariant-loop-provider : goal.invariant-loop-provider
+invariant-loop-provider l = (length l.tray ≡ length l.initial.tray) × (l.at ≡ l.from + count l.set (l.provider - 1))
+    × (put_all l.tray l.at (to_locals l.m (above l.set (l.provider - 1))) ≡ put_all l.initial.tray l.from (to_locals l.m (above l.set 0)))

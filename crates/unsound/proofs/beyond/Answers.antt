@@ -1,13 +1,13 @@
 -- `beyond` meets its contract: s is the start. Assumes nothing.
-use mathlib.Core.Path.{sym, ◌∙◌}
+use mathlib.Core.Path.{sym, ap, ◌∙◌}
+use Rattle.std.specs.Prelude.{Some}
 use Rattle.books.proofs.Given.{sound_length, sound_splits_lem}
 use Rattle.unsound.proofs.Theorems.{books_fault_lem, no_fault, line_fault_lem, books_kept}
-use borrow.Author.Rules.{rules}
 use Rattle.unsound.proofs.beyond.Goals as goal
 
 pub returns-then-books_check-ne0 : goal.returns-then-books_check-ne0
 returns-then-books_check-ne0 c =
-    c.whole.ensures ∙ books_fault_lem _ c.args.providers.now c.args.books.now c.args.n c.requires
+    ap Some c.whole.ensures ∙ books_fault_lem _ c.args.providers.now c.args.books.now c.args.n c.requires
     (λ z. c.if-books_check-ne0.true (c.books_check.ensures ∙ z))
 
 pub sound-requires : goal.sound-requires
@@ -18,7 +18,7 @@ sound-requires c =
 
 pub returns-then-sound : goal.returns-then-sound
 returns-then-sound c =
-    c.whole-then-sound.ensures ∙ no_fault _ c.args.providers.now c.args.books.now c.args.n c.requires
+    no_fault _ c.args.providers.now c.args.books.now c.args.n c.requires
     (sym c.books_check.ensures ∙ c.if-books_check-ne0.false)
     (sym c.sound.ensures ∙ c.if-sound.true)
 
@@ -32,4 +32,3 @@ pub returns : goal.returns
 returns c =
     c.fault.ensures ∙ line_fault_lem _ c.args.providers.now c.args.books.now c.args.n c.requires
     (sym c.books_check.ensures ∙ c.if-books_check-ne0.false)
-    (sym c.sound.ensures ∙ c.if-sound.false)

@@ -1,8 +1,8 @@
 -- `marks::fault` meets its contract. Assumes nothing.
 use borrow.Author.Tests.{le-leb, lt-leb}
 use lib.ListN.{length}
-use Rattle.bookfaults.specs.Clauses.{providers_fault}
-use borrow.Author.Rules.{rules}
+use Rattle.bookfaults.specs.Clauses.{mark_found, providers_fault}
+use Rattle.std.proofs.Common.{rules}
 use Rattle.bookfaults.proofs.marks.fault.Goals as goal
 
 pub returns-then-p-gt-PROVIDERS : goal.returns-then-p-gt-PROVIDERS
@@ -11,4 +11,5 @@ returns-then-p-gt-PROVIDERS c = rw (c.whole.ensures, lt-leb (length c.args.p.now
 
 pub returns : goal.returns
 unfolding providers_fault
-returns c = rw (c.over.ensures, le-leb (length c.args.p.now) 63 c.if-p-gt-PROVIDERS.false)
+returns c =
+    rw (c.first.ensures (mark_found c.args.p.now) (λ i r k e. search rules), le-leb (length c.args.p.now) 63 c.if-p-gt-PROVIDERS.false)

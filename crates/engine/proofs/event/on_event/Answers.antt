@@ -3,7 +3,6 @@
 use Rattle.model.proofs.Formed.{fields}
 use Rattle.books.proofs.Given.{sound_length, sound_splits_lem}
 use Rattle.engine.proofs.Deciding.{decide_asks, may_apply, may_deliver, did}
-use borrow.Author.Rules.{rules}
 use Rattle.engine.proofs.event.on_event.Goals as goal
 
 pub surveyed-f-requires : goal.surveyed-f-requires

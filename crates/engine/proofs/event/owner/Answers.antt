@@ -3,7 +3,6 @@ use mathlib.Core.Path.{sym, ap, ◌∙◌}
 use Rattle.model.specs.Books.{owner_of}
 use Rattle.model.proofs.Lists.{clash}
 use Rattle.books.proofs.Given.{sound_length}
-use borrow.Author.Rules.{rules}
 use Rattle.engine.proofs.event.owner.Goals as goal
 
 pub owner-requires : goal.owner-requires

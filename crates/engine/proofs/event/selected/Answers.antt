@@ -2,13 +2,12 @@
 use mathlib.Core.Path.{sym, ◌∙◌}
 use Rattle.model.proofs.Lists.{clash}
 use Rattle.engine.proofs.Deciding.{selected_is, the_seen, none_seen}
-use borrow.Author.Rules.{rules}
 use Rattle.engine.proofs.event.selected.Goals as goal
 
-pub returns-in-One : goal.returns-in-One
-returns-in-One c =
+pub returns-in-Some : goal.returns-in-Some
+returns-in-Some c =
     λ _ v q.
-    selected_is _ _ _ _ _ (c.code_of.ensures ∙ the_seen _ _ _ v c.in-One.is q)
+    selected_is _ _ _ _ _ (c.code_of-code.ensures ∙ the_seen _ _ v c.in-Some.is q)
     c.classify.ensures.selected
 
 pub returns-in_default : goal.returns-in_default

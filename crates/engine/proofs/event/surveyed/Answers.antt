@@ -1,6 +1,5 @@
 -- `engine::event::surveyed` meets its contract: the rows under the two names are those of the line. Assumes nothing.
 use Rattle.engine.proofs.Deciding.{surveyed_for}
-use borrow.Author.Rules.{rules}
 use Rattle.engine.proofs.event.surveyed.Goals as goal
 
 pub returns : goal.returns

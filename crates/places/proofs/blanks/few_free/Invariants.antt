@@ -7,6 +7,3 @@ use Rattle.places.proofs.blanks.few_free.Given as goal
 
 abbrev pub invariant-loop-k : goal.invariant-loop-k
 invariant-loop-k l = free_from (place_of 8 l.at l.books) (l.n - l.i) l.i ≡ free_from (place_of 8 l.at l.books) (l.n - l.k) l.k
-
-abbrev pub decreases-loop-k : goal.decreases-loop-k
-decreases-loop-k l = l.n - l.k

@@ -15,7 +15,7 @@ returns-then-again c =
       ← c.is_open.ensures,
       c.if-is_open.false,
       c.download-run.ensures,
-      c.close-last.ensures,
+      c.close.ensures,
     )
 
 pub returns-then-is_open-2 : goal.returns-then-is_open-2
@@ -24,4 +24,4 @@ returns-then-is_open-2 c = rw (c.if-again.false, ← c.is_open-2.ensures, c.if-i
 
 pub returns : goal.returns
 unfolding settling_told
-returns c = rw (c.if-again.false, ← c.is_open-2.ensures, c.if-is_open-2.false, c.close-last-2.ensures)
+returns c = rw (c.if-again.false, ← c.is_open-2.ensures, c.if-is_open-2.false, c.close-2.ensures)

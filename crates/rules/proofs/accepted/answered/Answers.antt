@@ -5,5 +5,5 @@ use Rattle.rules.proofs.accepted.answered.Goals as goal
 
 pub returns : goal.returns
 returns c =
-    answered_says _ _ _ _ _ _ _ _ _ _ c.again-again.ensures c.answering-p.ensures
-    c.heard-w.ensures c.settled-rows.ensures c.answer_mail-mail.ensures
+    answered_says _ _ _ _ _ _ _ _ _ _ c.again-again.ensures c.answering.ensures
+    c.heard-w.ensures c.settled.ensures c.answer_mail.ensures

@@ -7,10 +7,10 @@ use borrow.Author.Rules.{rules}
 use Rattle.rules.proofs.accepted.created.Goals as goal
 
 pub overflow_add-last : goal.overflow_add-last
-overflow_add-last c = let l = c.requires (ap the_one c.in-Nobody.is) in omega arith
+overflow_add-last c = let l = c.requires (ap the_one c.in-None.is) in omega arith
 
-pub returns-in-One : goal.returns-in-One
-returns-in-One c = created_joins _ _ _ _ _ _ _ c.in-One.is c.concurred.ensures c.restated.ensures
+pub returns-in-Some : goal.returns-in-Some
+returns-in-Some c = created_joins _ _ _ _ _ _ c.in-Some.is c.concurred.ensures c.restated.ensures
 
-pub returns-in-Nobody : goal.returns-in-Nobody
-returns-in-Nobody c = created_fresh _ _ _ _ _ c.in-Nobody.is c.fresh.ensures c.added.ensures
+pub returns-in-None : goal.returns-in-None
+returns-in-None c = created_fresh _ _ _ _ _ c.in-None.is c.fresh.ensures c.added.ensures

@@ -10,7 +10,7 @@ returns-then-is_modify c =
     c.modified.ensures c.restated.ensures
 
 pub cast-requires : goal.cast-requires
-cast-requires c = opened_few _ c.args.e c.args.v _ c.opened.ensures c.requires.purpose_le_disconnect
+cast-requires c = opened_few _ c.args.e c.args.asked.version _ c.opened.ensures c.requires.purpose_le_disconnect
 
 pub returns-then-is_broadcast : goal.returns-then-is_broadcast
 returns-then-is_broadcast c =

@@ -4,12 +4,12 @@ use Rattle.rules.proofs.Ruled.{settled-alone, settled_over}
 use borrow.Author.Rules.{rules}
 use Rattle.rules.proofs.accepted.settled.Goals as goal
 
-pub returns-in-One : goal.returns-in-One
-returns-in-One c =
-    settled_over _ _ _ _ c.settled-s.ensures _ _ _ c.retired-old.ensures
-    (sym c.replaced-over.ensures ∙ c.in-One.is)
+pub returns-in-Some : goal.returns-in-Some
+returns-in-Some c =
+    settled_over _ _ _ _ c.settled-s.ensures _ _ c.retired.ensures
+    (sym c.replaced.ensures ∙ c.in-Some.is)
 
-pub returns-in-Nobody : goal.returns-in-Nobody
-returns-in-Nobody c =
+pub returns-in-None : goal.returns-in-None
+returns-in-None c =
     settled-alone _ _ _ _ c.settled-s.ensures
-    (sym c.replaced-over.ensures ∙ c.in-Nobody.is)
+    (sym c.replaced.ensures ∙ c.in-None.is)

@@ -1,8 +1,10 @@
 -- `find::versions` meets its contract. Assumes nothing.
-use Prim.Native.Nat.{ℕ, ◌+◌, ◌*◌, ◌≤◌}
-use mathlib.Core.Path.{◌∙◌, sym, subst}
+use Prim.Native.Nat.{ℕ, ◌+◌, ◌*◌}
+use mathlib.Core.Path.{◌∙◌, ap}
+use native.Mathlib.Nat.{add-zero}
 use native.Mathlib.Omega.{arith}
-use Rattle.table.specs.Find.{keys_of, lower_of}
+use Rattle.rows.specs.Table.{decode}
+use Rattle.table.specs.Find.{keys_of, place_in}
 use Rattle.table.proofs.Finds.{lower_more}
 use Rattle.table.proofs.Sought.{sound_rises, sound_place}
 use Rattle.table.proofs.find.versions.Goals as goal
@@ -15,15 +17,20 @@ lower-from-requires c =
       k_bound = omega arith;
     }
 
-pub behind-to-requires : goal.behind-to-requires
-behind-to-requires c =
-    let xs = keys_of c.args.n c.args.t.now in (
-      omega (arith, c.requires.sound_table.whole, c.requires.sound_table.room),
-      subst (λ (i : ℕ). i ≤ lower_of ((c.args.tn.0 + 1) * 65536) xs) (sym c.lower-from.ensures)
-          (lower_more (c.args.tn.0 * 65536) ((c.args.tn.0 + 1) * 65536) (omega arith) xs),
+pub reach-to-requires : goal.reach-to-requires
+reach-to-requires c =
+    let a = c.args in
+    omega (
+      arith,
+      c.lower-from.ensures,
+      sound_place a.t.now a.n c.requires.sound_table ((a.tn.0 + 1) * 65536 + 0),
+      lower_more (a.tn.0 * 65536) ((a.tn.0 + 1) * 65536 + 0) (omega arith) (keys_of a.n a.t.now),
     )
 
 pub returns : goal.returns
 returns c =
-    let at = sound_place c.args.t.now c.args.n c.requires.sound_table in
-    (c.lower-from.ensures ∙ at (c.args.tn.0 * 65536), c.behind-to.ensures ∙ at ((c.args.tn.0 + 1) * 65536))
+    let a = c.args in
+    let at = sound_place a.t.now a.n c.requires.sound_table in (
+      c.lower-from.ensures ∙ at (a.tn.0 * 65536),
+      c.reach-to.ensures ∙ ap (λ (k : ℕ). place_in k (decode a.t.now)) (add-zero ((a.tn.0 + 1) * 65536)),
+    )

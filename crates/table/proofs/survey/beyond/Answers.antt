@@ -12,13 +12,13 @@ use Rattle.table.proofs.survey.beyond.Goals as goal
 pub returns-then-low-high : goal.returns-then-low-high
 returns-then-low-high c =
     let a = c.args in
-    let vs = decode a.t.now in
+    let vs = decode a.t.now.bytes.now in
     rw (lt-ltb _ _ c.if-low-high.true)
-    (subst (λ (l : List Version). Summed vs l a.number (facts_at vs a.n c.under.result))
+    (subst (λ (l : List Version). Summed vs l a.number (facts_at vs a.t.now.used c.under.result))
     (append-nil (rows_of itself a.high.0 vs))
     (c.under.ensures [] (c.none-p.ensures vs a.number)))
 
 pub returns : goal.returns
 returns c =
     let a = c.args in
-    rw (le-ltb _ _ c.if-low-high.false) (c.none-p.ensures (decode a.t.now) a.number)
+    rw (le-ltb _ _ c.if-low-high.false) (c.none-p.ensures (decode a.t.now.bytes.now) a.number)

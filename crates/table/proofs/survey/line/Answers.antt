@@ -10,11 +10,11 @@ use Rattle.table.proofs.Numbered.{rows_line}
 use Rattle.table.proofs.survey.line.Goals as goal
 
 pub beyond-p-requires : goal.beyond-p-requires
-beyond-p-requires c = record { sound_table = c.requires.sound_table; high_bound = c.requires.low_le_high.1 }
+beyond-p-requires c = record { high_bound = c.requires.low_le_high.1 }
 
 pub under-p-requires : goal.under-p-requires
 under-p-requires c =
-    record { sound_table = c.requires.sound_table; tn_bound = omega (arith, c.requires.low_le_high.0, c.requires.low_le_high.1) }
+    record { tn_bound = omega (arith, c.requires.low_le_high.0, c.requires.low_le_high.1) }
 
 pub returns : goal.returns
 returns c =

@@ -1,8 +1,0 @@
--- `fields::fits_bits` meets its contract. Assumes nothing.
-use Rattle.model.specs.Record.{fits_bits}
-use mathlib.Core.Path.{refl}
-use Rattle.fields.proofs.fits_bits.Goals as goal
-
-pub returns : goal.returns
-unfolding fits_bits
-returns c = refl

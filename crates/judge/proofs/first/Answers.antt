@@ -1,9 +1,0 @@
--- `judge::first` meets its contract. Assumes nothing.
-
-use Rattle.judge.proofs.first.Goals as goal
-
-pub returns-then-test : goal.returns-then-test
-returns-then-test c = rw c.if-test.true
-
-pub returns-else-test : goal.returns-else-test
-returns-else-test c = rw c.if-test.false
