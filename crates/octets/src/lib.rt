@@ -9,7 +9,9 @@ pub fn u64_at(s: &[u8], at: usize) -> u64
     requires { at + 8 ≤ length s.now }
     ensures { result ≡ be 8 s.now at }
 {
-    let bytes = s[at..].first_chunk::<8>().unwrap();
+    let Some(bytes) = s[at..at + 8].as_array::<8>() else {
+        unreachable!()
+    };
     u64::from_be_bytes(*bytes)
 }
 
@@ -18,7 +20,9 @@ pub fn u32_at(s: &[u8], at: usize) -> u64
     requires { at + 4 ≤ length s.now }
     ensures { result ≡ be 4 s.now at }
 {
-    let bytes = s[at..].first_chunk::<4>().unwrap();
+    let Some(bytes) = s[at..at + 4].as_array::<4>() else {
+        unreachable!()
+    };
     u64::from(u32::from_be_bytes(*bytes))
 }
 

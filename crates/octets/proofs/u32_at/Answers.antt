@@ -6,5 +6,4 @@ use Rattle.octets.proofs.u32_at.Goals as goal
 pub returns : goal.returns
 returns c =
     let a = c.args in
-    c.from.ensures ∙ c.from_be_bytes.ensures
-    ∙ be_4 a.at a.s.now c.unwrap-bytes.result.now c.requires (rw c.unwrap-bytes.ensures at c.first_chunk.ensures.cases)
+    c.from.ensures ∙ c.from_be_bytes.ensures ∙ be_4 a.at a.s.now _ c.requires c.in-Some.ensures.cases
