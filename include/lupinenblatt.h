@@ -8,8 +8,8 @@
  * Apart from that a call answers for every input: there are no bytes, numbers or lengths that it may not be given. The empty slice of a C++
  * container may have a null pointer: lend another one with length 0. What the built library does with null and 0 is tested, not promised.
  *
- * There is no state. The library keeps nothing between calls, has no variables, allocates nothing, and needs no other symbols but memcpy
- * and memset, which C compilers ask of every environment: no C library else, and no start-up. A call uses at most 4 KiB of stack. Calls on several threads do not know of each other, so two calls may run at the same
+ * There is no state. The library keeps nothing between calls, has no variables, allocates nothing, and needs no other symbol but memset,
+ * which C compilers ask of every environment: no C library else, and no start-up. A call uses at most 4 KiB of stack. Calls on several threads do not know of each other, so two calls may run at the same
  * time if neither writes to a slice that the other has; a caller who shares a table locks it for the whole call. To store the table and to
  * send the messages, both or neither, is the caller's.
  *
