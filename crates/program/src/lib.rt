@@ -18,17 +18,31 @@ pub use why::Why;
 pub struct Told;
 
 // A program that runs. Its name begins each line of an error; its arguments are counted from 1, behind the words that are its options.
-// A print that fails is passed over.
+// Where it asks at once, a file that is opened is tried by a read of no bytes, which a folder refuses. A print that fails is passed over.
 #[derive(Clone, Copy)]
 pub struct Program<'a> {
     pub rt: HostRuntime,
     name: &'a str,
     options: usize,
+    at_once: bool,
 }
 
 impl<'a> Program<'a> {
     pub fn new(rt: HostRuntime, name: &'a str, options: usize) -> Program<'a> {
-        Program { rt, name, options }
+        Program {
+            rt,
+            name,
+            options,
+            at_once: false,
+        }
+    }
+
+    // The same, where each file is tried when it is opened.
+    pub fn at_once(self) -> Program<'a> {
+        Program {
+            at_once: true,
+            ..self
+        }
     }
 
     // Whether there is an argument at a place.
@@ -79,7 +93,7 @@ impl<'a> Program<'a> {
         self.say_named(self.named(place).as_bytes(), text)
     }
 
-    // Opens what an argument names and can be read, which a folder cannot.
+    // Opens what an argument names.
     pub fn open(&self, place: usize) -> Result<File, Told> {
         match self.argument(place) {
             Ok(name) => match self.opened(&name) {
@@ -92,8 +106,10 @@ impl<'a> Program<'a> {
 
     fn opened(&self, name: &Name) -> io::Result<File> {
         let mut file = fs::open(&self.rt, name.text()?)?;
-        let mut none = [0u8; 0];
-        file.read(&mut none)?;
+        if self.at_once {
+            let mut none = [0u8; 0];
+            file.read(&mut none)?;
+        }
         Ok(file)
     }
 
@@ -120,7 +136,7 @@ impl<'a> Program<'a> {
         longer: D,
     ) -> Result<&'b mut [u8], Told> {
         let mut file = self.open(place)?;
-        let n = fill(&mut file, buf);
+        let (Ok(n) | Err(n)) = fill(&mut file, buf);
         self.end(&mut file, place, longer)?;
         Ok(&mut buf[..n])
     }

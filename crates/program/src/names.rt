@@ -1,5 +1,5 @@
 // The names that arguments are: bytes, which need not be text.
-ghost use Rattle.std.specs.Prelude.{◌≡◌, ℕ, ◌+◌, ◌≤◌, List, [], ◌++◌, length, take, IfSome, IfOk, IsNone, ◌↔◌, ◌<◌};
+ghost use Rattle.std.specs.Prelude.{◌≡◌, ℕ, ◌+◌, ◌≤◌, List, [], ◌++◌, length, take, IfSome, MatchResult, IsUtf8, IsNone, ◌↔◌, ◌<◌};
 
 use std::env::{Env, FillError};
 use std::io;
@@ -59,7 +59,7 @@ impl Name {
 
     // The name as the text that the system's calls take.
     pub fn text(&self) -> io::Result<&str>
-        ensures { IfOk result (λ text. text.now ≡ self.now) }
+        ensures { MatchResult result (λ text. text.now ≡ self.now) (λ _. ¬ (IsUtf8 self.now)) }
     {
         match str::from_utf8(self.as_bytes()) {
             Ok(text) => Ok(text),

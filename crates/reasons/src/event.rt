@@ -79,7 +79,8 @@ impl Short {
 // Reads past as much as is read at once; how many bytes there were.
 fn pass(file: &mut impl Read) -> usize {
     let mut bytes = [0u8; CHUNK];
-    fill(file, &mut bytes)
+    let (Ok(n) | Err(n)) = fill(file, &mut bytes);
+    n
 }
 
 // So many turns of reading past; an error where the file ends in one of them.
@@ -98,7 +99,7 @@ fn behind(file: &mut impl Read, before: u64) -> Result<[u8; RECORD], Short> {
     let turns = before / RECORDS;
     pass_all(file, turns)?;
     let mut bytes = [0u8; CHUNK];
-    let got = fill(file, &mut bytes);
+    let (Ok(got) | Err(got)) = fill(file, &mut bytes);
     let from = (before % RECORDS) as usize * RECORD;
     let end = from + RECORD;
     if got < end {

@@ -169,7 +169,8 @@ fn case(rt: &impl Print, frame: &Frame) {
 // A line for the next case, with its place; none where the input ends before it does.
 fn one(rt: &impl Print, input: &mut impl Read, place: u64) -> Option<()> {
     let mut frame = [0u8; FRAME];
-    if fill(input, &mut frame) < FRAME {
+    let (Ok(n) | Err(n)) = fill(input, &mut frame);
+    if n < FRAME {
         return None;
     }
     let _ = rt.print(place);

@@ -199,7 +199,7 @@ fn next(
 ) -> Result<u64, Told> {
     let mut events = [0u8; 24576];
     let mut input = s.input;
-    let n = fill(&mut input, &mut events);
+    let (Ok(n) | Err(n)) = fill(&mut input, &mut events);
     let end = n - n % RECORD;
     let behind = run(program, s, place, lent, &events[..end], tally)?;
     rest(program, s, behind, lent, &events[end..n], tally)

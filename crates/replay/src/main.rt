@@ -211,7 +211,7 @@ fn main(rt: HostRuntime) {
         say_usage(plain);
         return;
     };
-    let program = Program::new(rt, "replay", call.options());
+    let program = Program::new(rt, "replay", call.options()).at_once();
     // No option stands where TABLE does.
     if arguments::name(program, Argument::Table)
         .as_bytes()

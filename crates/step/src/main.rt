@@ -52,7 +52,7 @@ fn print_events(
 ) {
     for place in 1..u64::MAX {
         let mut event = [0u8; RECORD];
-        let n = fill(input, &mut event);
+        let (Ok(n) | Err(n)) = fill(input, &mut event);
         if n == 0 {
             return;
         }
