@@ -91,7 +91,7 @@ module _ (l : Option Marks) (b : List ℕ) (most : ℕ) (es t₀ y₀ o₀ : Lis
         (sym (ap (λ (rs : List (List ℕ)). steps l b most rs S) (next_record i c) ∙ rw p) ∙ h.rest)
 
     -- no record is left
-    went_all : length es / RECORD ≤ i → Went 0 whole t y o (record { outcome = 0; events = i; messages = m })
+    pub went_all : length es / RECORD ≤ i → Went 0 whole t y o (record { outcome = 0; events = i; messages = m })
     unfolding steps
     went_all c =
         went S

@@ -48,6 +48,7 @@ pub fn table_check(table: &[u8], providers: &[u8], books: &[u8]) -> Answer
 
 // Whether bytes are a sound provider list and sound books: 0 or 1.
 // Kept: the number is what lupinenblatt_books_check answers to C.
+#[tactic(auto, using(crate::proofs::Lending::kept_says), unfolding(crate::specs::Checks::checked_books))]
 pub fn books_check(providers: &[u8], books: &[u8]) -> u8
     ensures { result ≡ checked_books providers.now books.now }
 {

@@ -1,13 +1,15 @@
 // Each provider's class for a TN, as its number in a byte: for those who ask why a system was skipped. [A8.1]
 #![tactic(auto)]
 
-ghost use Rattle.std.specs.Prelude.{◌≡◌, ◌&&◌, eqb, length};
+ghost use Rattle.std.specs.Prelude.{◌≡◌, ◌&&◌, eqb, length, map};
 ghost use Rattle.model.specs.Numbers.{ten_digits, last_provider};
 ghost use Rattle.model.specs.Selection.{class_number};
+ghost use Rattle.providers.specs.Providers.{listed, entry_of};
+ghost use Rattle.soundbooks.specs.Sound.{kept_by};
 ghost use Rattle.selection.specs.Classes.{class_in};
 ghost use Rattle.classes.specs.Classes.{numbers_of, Classified};
 
-use model::{Class, Tn, limit};
+use model::{Class, Marks, Tn, limit};
 use selection::Classes;
 
 // As many places as providers.
@@ -37,13 +39,20 @@ fn formed(tn: Tn, places: usize) -> bool
     kinds::is_tn(tn) & (places == PLACES)
 }
 
+// The marks of a provider list that is sound, beside sound books.
+fn lists(providers: &[u8], books: &[u8]) -> Option<Marks>
+    ensures { result ≡ kept_by (listed (map entry_of providers.now)) books.now }
+{
+    soundbooks::kept(providers::marks_of_bytes(providers), books)
+}
+
 // The classes for a TN to exactly 63 places, and 0; 1 where provider list or books are unsound, 2 where it is no TN or the places are not
 // 63, and nothing is written.
 // Kept: the numbers are those that lupinenblatt_selection answers to C.
 pub fn write(providers: &[u8], books: &[u8], tn: u64, out: &mut [u8]) -> u8
     ensures { Classified providers.now books.now tn out.old out.new result }
 {
-    let Some(marks) = soundbooks::kept(providers::marks_of_bytes(providers), books) else {
+    let Some(marks) = lists(providers, books) else {
         return 1;
     };
     let asked = Tn(tn);

@@ -11,8 +11,8 @@ use lib.ListN.{length, get_or}
 use Rattle.faults.specs.declared.Found.{Found}
 use Rattle.std.specs.Prelude.{Option, None}
 use Rattle.std.specs.Option.{is_none}
-use Rattle.faults.specs.Faults.{Clause, beside, nearest, first_fault}
-use Rattle.faults.proofs.Laws.{numbered_found, numbered_fault, broken_numbered, first_numbered}
+use Rattle.faults.specs.Faults.{Clause, beside, nearest, first_fault, told, is_faultless}
+use Rattle.faults.proofs.Laws.{numbered_found, numbered_fault, told_faultless, broken_numbered, first_numbered}
 use Rattle.faults.proofs.Laws.{nearest_none, all_hold, none_broken, faultless-next, faulty_here}
 use Rattle.model.specs.declared.Version.{Version}
 use Rattle.model.specs.Sound.{live, sends, worked, sound_lines}
@@ -140,3 +140,7 @@ module _ (line : ℕ → ℕ) (vs : List Version) where
   pub line_numbered : numbered_fault (line_fault line vs) ≡ true
   unfolding line_fault
   line_numbered = first_numbered (row_found line vs) row_numbered (length vs) 0
+
+  -- CLAUSE 0 IS TOLD exactly where the lines are sound
+  pub lines_told : is_faultless (told (line_fault line vs)) ≡ sound_lines line vs
+  lines_told = told_faultless (line_fault line vs) line_numbered ∙ lines_verdict

@@ -95,6 +95,7 @@ fn found(books: &[u8], t: &[u8], n: usize, i: usize) -> Option<Found>
 }
 
 // Where the lines of a sound table are unsound, by the split pairs of sound books.
+#[tactic(auto, unfolding(crate::specs::Clauses::line_fault))]
 pub fn fault(books: &[u8], t: &[u8], n: usize) -> Option<Fault>
     requires sound_table { SoundTable t.now n }
     requires books_len { (length books.now ≡ book_bytes) × (sound_splits (splits_of books.now) ≡ true) }

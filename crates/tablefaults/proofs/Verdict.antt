@@ -10,9 +10,10 @@ use lib.Dec.{eqb, ltb, leb}
 use lib.ListN.{length, drop}
 use Rattle.std.specs.Prelude.{Some, None}
 use Rattle.std.specs.Option.{is_none}
-use Rattle.faults.specs.Faults.{before, nearest, broken, first_fault}
+use Rattle.faults.specs.Faults.{before, nearest, broken, first_fault, told, is_faultless}
 use Rattle.faults.proofs.Laws.{not_leb, nearest-same, nearest_none, all_hold, none_broken, faultless-next, faulty_here}
-use Rattle.faults.proofs.Laws.{numbered_found, numbered_fault, broken_numbered, first_numbered, free_numbered, whole_numbered}
+use Rattle.faults.proofs.Laws.{numbered_found, numbered_fault, told_faultless, broken_numbered, first_numbered, free_numbered}
+use Rattle.faults.proofs.Laws.{whole_numbered}
 use Rattle.model.proofs.Lists.{and_l}
 use Rattle.model.specs.declared.Broadcast.{Broadcast}
 use Rattle.model.specs.declared.Version.{Version}
@@ -338,3 +339,7 @@ unfolding table_fault
 table_numbered t =
     whole_numbered (eqb (length t % ROW) 0) _ _
     (whole_numbered (leb (length t) (most_rows * ROW)) _ _ (first_numbered (row_found t) (row_numbered t) (length t / ROW) 0) refl) refl
+
+-- CLAUSE 0 IS TOLD exactly where the engine's own check says sound
+pub table_told : (t : List ℕ) → is_faultless (told (table_fault t)) ≡ is_sound (soundness_of t)
+table_told t = told_faultless (table_fault t) (table_numbered t) ∙ table_verdict t

@@ -35,6 +35,7 @@ fn found(t: &[u8], i: usize) -> Option<Found>
 }
 
 // Where any bytes are no sound table.
+#[tactic(auto, unfolding(crate::specs::Clauses::table_fault))]
 pub fn fault(t: &[u8]) -> Option<Fault>
     ensures { result ≡ table_fault t.now }
 {
